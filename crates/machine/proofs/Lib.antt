@@ -1,0 +1,4 @@
+-- The laws of the rules.
+pub mod Written
+pub mod Verdicts
+pub mod SmallFacts

@@ -1,4 +1,6 @@
 // The machine: its settings, a processor's record, a request, and what comes back. All by value.
+pub mod answers;
+pub mod numbers;
 
 // The settings, the same for both processors.
 pub struct Settings {

@@ -1,0 +1,88 @@
+// Storage keys: the key byte, who may fetch and store, and what is recorded.
+use machine::AccessKind;
+use machine::Processor;
+ghost use mathlib.Core.Path.{_≡_};
+ghost use Prim.Native.Nat.{max};
+ghost use Rattle.machine.specs.Key.{keyOf, afterReset, codeOf, joined as joinedOf};
+ghost use Rattle.machine.specs.Protection.{permitted as isPermitted, lowProtected, forbidden as isForbidden, recorded as recordedBy};
+
+// The key in a key byte: bit 7 ignored.
+pub fn key_of(key: u8) -> u8
+    ensures { λ r. ⌜ r ≡ keyOf key ⌝ }
+{
+    key / 2 * 2
+}
+
+// The key in bits 24-30 of a register word.
+pub fn key_in(word: u32) -> u8
+    ensures { λ r. ⌜ r ≡ keyOf word ⌝ }
+{
+    (word % 256 / 2 * 2) as u8
+}
+
+// The key that a completed access leaves in a unit that it touches.
+pub fn recorded(kind: AccessKind, key: u8) -> u8
+    ensures { λ r. ⌜ r ≡ recordedBy kind key ⌝ }
+{
+    match kind {
+        AccessKind::Fetch => key / 8 * 8 + 4 + key / 2 % 2 * 2,
+        AccessKind::Store => key / 8 * 8 + 6,
+    }
+}
+
+// The key with its reference bit zero.
+pub fn after_reset(key: u8) -> u8
+    ensures { λ r. ⌜ r ≡ afterReset key ⌝ }
+{
+    key / 8 * 8 + key / 2 % 2 * 2
+}
+
+// The condition code of a reset: 2 x reference + change.
+pub fn code_of(key: u8) -> u8
+    ensures { λ r. ⌜ r ≡ codeOf key ⌝ }
+{
+    key / 2 % 4
+}
+
+fn either(a: u8, b: u8) -> u8
+    ensures { λ r. ⌜ r ≡ max a b ⌝ }
+{
+    if a < b { b } else { a }
+}
+
+// The low-order key with reference and change bits ORed with those of the high-order key.
+pub fn joined(low: u8, high: u8) -> u8
+    ensures { λ r. ⌜ r ≡ joinedOf low high ⌝ }
+{
+    let referenced = either(low / 4 % 2, high / 4 % 2);
+    let changed = either(low / 2 % 2, high / 2 % 2);
+    low / 8 * 8 + referenced * 4 + changed * 2
+}
+
+// The access key and the storage key permit an access.
+pub fn permitted(kind: AccessKind, access_key: u8, key: u8) -> bool
+    ensures { λ r. ⌜ r ≡ isPermitted kind «access_key» key ⌝ }
+{
+    let matches = (access_key == 0) | (access_key == key / 16 % 16);
+    match kind {
+        AccessKind::Fetch => matches | (key / 8 % 2 == 0),
+        AccessKind::Store => matches,
+    }
+}
+
+// Low-address protection forbids an access to a real address.
+pub fn low_protected(kind: AccessKind, p: Processor, real: u32) -> bool
+    ensures { λ r. ⌜ r ≡ lowProtected kind p real ⌝ }
+{
+    match kind {
+        AccessKind::Fetch => false,
+        AccessKind::Store => p.low_protection & (real < 512),
+    }
+}
+
+// A byte with this real address and the key of its unit is forbidden to an access.
+pub fn forbidden(kind: AccessKind, p: Processor, real: u32, key: u8) -> bool
+    ensures { λ r. ⌜ r ≡ isForbidden kind p real key ⌝ }
+{
+    low_protected(kind, p, real) | !permitted(kind, p.key, key)
+}

@@ -8,3 +8,4 @@ pub mod KeyBytes
 pub mod Plans
 pub mod Requests
 pub mod Accesses
+pub mod Named

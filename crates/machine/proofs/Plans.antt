@@ -1,11 +1,12 @@
 -- What is known of a request that the lines from 64 to 67 let pass; and that line 67 never applies where line 65 has passed: a real address
 -- inside storage has its absolute address inside, since storage is whole blocks and the prefix is a block of it.
 -- Assumes nothing.
-use Prim.Native.Nat.{ℕ, zero, suc, _/_, _%_, _<_, _≤_}
-use mathlib.Core.Path.{_≡_, refl}
+use Prim.Native.Nat.{ℕ, zero, suc, _+_, _*_, _/_, _%_, _<_, _≤_}
+use mathlib.Core.Path.{_≡_, refl, _∙_}
 use mathlib.Core.Bool.{Bool, true, false, cond, _&&_, _||_, not}
 use mathlib.Core.Logic.{_≢_, ⊎-elim}
 use mathlib.Core.List.{List}
+use native.Mathlib.Nat.{mul-le-mul-left}
 use native.Mathlib.Omega.{arith}
 use lib.ListN.{length}
 use lib.Dec.{eqb, ltb, leb}
@@ -13,6 +14,8 @@ use borrow.Author.Tests.{ltb-true, ltb-false, leb-false, eqb-true, not-false, lt
 use Rattle.machine.specs.declared.Settings.{Settings}
 use Rattle.machine.specs.declared.Processor.{Processor}
 use Rattle.machine.specs.declared.AccessKind.{AccessKind}
+use Rattle.machine.specs.declared.KeyInstruction.{KeyInstruction}
+use Rattle.machine.specs.declared.KeyInstruction.the-variants.{Isk, Ssk, Rrb, Iske, Sske, Rrbe}
 use Rattle.machine.specs.declared.Request.{Request}
 use Rattle.machine.specs.declared.Request.the-variants.{Access, Key, Prefix}
 use Rattle.machine.specs.declared.Reason.{Reason}
@@ -22,11 +25,12 @@ use Rattle.machine.specs.declared.Verdict.the-variants.{Clear, Stop}
 use Rattle.machine.specs.Numbers.{storageValid, lengthsValid, recordValid, unitSize, unitOf, add24}
 use Rattle.machine.specs.Answers.{number, line, firstOf, firstByte, firstLine}
 use Rattle.machine.specs.Prefixing.{absolute, byteAt}
-use Rattle.machine.specs.KeyInstructions.{designated}
+use Rattle.machine.specs.KeyInstructions.{extended, designated, twoKeys, keyCount}
+use Rattle.machine.specs.Step.{firstUnit}
 use Rattle.machine.specs.Table.{operandInvalid, absoluteOutside, addressing, absoluteAddressing, protection, plan, verdict}
-use Rattle.machine.proofs.Verdicts.{tested, line-clear, line-false, first-clear, bytes-clear, bytes-none}
-use Rattle.machine.proofs.Prefixing.{prefixing-stays-inside}
-use Rattle.machine.proofs.Units.{unit-inside}
+use Rattle.machine.proofs.Verdicts.{not-both, line-clear, line-false, first-clear, bytes-clear, bytes-none}
+use Rattle.machine.proofs.Prefixing.{prefixing-keeps-offset, prefixing-stays-inside}
+use Rattle.machine.proofs.Units.{units-of-block, unit-holds-access, unit-inside, unit-after}
 
 pub both : (a b : Bool) → a && b ≡ true → (a ≡ true) × (b ≡ true)
 both true b e = (refl, e)
@@ -108,11 +112,11 @@ never-protection s keys p (Access kind start count) = never-bytes 67 Protection 
 never-protection s keys p (Key i) = tt
 never-protection s keys p (Prefix i) = tt
 
--- no request is refused by line 67
-pub never-absolute-address : (s : Settings) (storageLength : ℕ) (keys : List ℕ) (n : ℕ) (p : Processor) (r : Request) (bufferLength : ℕ)
+-- no verdict of the table is line 67's
+pub table-never-67 : (s : Settings) (storageLength : ℕ) (keys : List ℕ) (n : ℕ) (p : Processor) (r : Request) (bufferLength : ℕ)
     → Never 67 (verdict s storageLength keys n p r bufferLength)
 unfolding verdict plan firstLine
-never-absolute-address s storageLength keys n p r bufferLength =
+table-never-67 s storageLength keys n p r bufferLength =
     never-first 67 _ _
     (pass _ _ _ (omega arith) (λ lengths. pass _ _ _ (omega arith) (λ own. pass _ _ _ (omega arith) (λ _. pass _ _ _ (omega arith) (λ _.
     pass _ _ _ (omega arith) (λ _. pass _ _ _ (omega arith) (λ _. pass _ _ _ (omega arith) (λ _.
@@ -182,3 +186,38 @@ access-passed s storageLength keyLength n p kind start count bufferLength e =
     byte i h =
         prefixing-stays-inside (p .prefix) (add24 start i) storageLength (known .whole) (known .installed)
         (leb-false _ _ (bytes-clear Addressing (λ i. leb storageLength (add24 start i)) count (cleared .inside) i h))
+
+-- the block of an extended instruction begins at a multiple of 4,096
+pub designated-block : (i : KeyInstruction) → extended i ≡ true → designated i % 4096 ≡ 0
+designated-block (Isk r1 r2) e = absurd (not-both e refl)
+designated-block (Ssk r1 r2) e = absurd (not-both e refl)
+designated-block (Rrb address) e = absurd (not-both e refl)
+designated-block (Iske r1 r2) e = omega arith
+designated-block (Sske r1 r2) e = omega arith
+designated-block (Rrbe r2) e = omega arith
+
+-- the units that an instruction works on lie in one block
+key-in-block : (s : Settings) (b : Bool) (address j : ℕ) → (b ≡ true → address % 4096 ≡ 0) → j < keyCount (b && not (s .«four_k»)) → address % 4096 + unitSize s * j < 4096
+key-in-block s true address j z h = omega (arith, z refl, units-of-block s, unit-holds-access s, mul-le-mul-left (unitSize s) h)
+key-in-block s false address j z h = let e : j ≡ 0 = omega arith in rw e (omega arith)
+
+-- the keys of a key instruction that the lines from 64 to 67 let pass are in the key array
+pub key-instruction-passed : (s : Settings) (storageLength keyLength n : ℕ) (p : Processor) (i : KeyInstruction) (bufferLength : ℕ)
+    → plan s storageLength keyLength n p (Key i) bufferLength ≡ Clear → (j : ℕ) → j < keyCount (twoKeys s i) → firstUnit s p i + j < keyLength
+unfolding addressing
+key-instruction-passed s storageLength keyLength n p i bufferLength e j h =
+    rw (known .keyed, ← unit-after s at j)
+    (unit-inside s storageLength (at + unitSize s * j) (known .whole) (omega (arith, known .whole, inside, key-in-block s (extended i) at j (λ t. prefixing-keeps-offset (p .prefix) (designated i) ∙ designated-block i t) h)))
+  where
+    cleared : Cleared s storageLength keyLength n p (Key i) bufferLength
+    cleared = plan-clear s storageLength keyLength n p (Key i) bufferLength e
+
+    known : Configured s storageLength keyLength p
+    known = configured s storageLength keyLength p (cleared .lengths) (cleared .own)
+
+    at : ℕ
+    at = absolute (p .prefix) (designated i)
+
+    inside : at < storageLength
+    inside =
+        prefixing-stays-inside (p .prefix) (designated i) storageLength (known .whole) (known .installed) (leb-false _ _ (line-clear _ _ (cleared .inside)))

@@ -32,6 +32,7 @@ use Rattle.machine.specs.Table.{protection, plan, verdict}
 use Rattle.machine.specs.Step.{Outcome, storageLeft, bufferLeft, keysRecorded, completed, performed, step}
 use Rattle.machine.proofs.Written.{length-written}
 use Rattle.machine.proofs.Verdicts.{not-clear, first-clear}
+use Rattle.machine.proofs.Plans.{table-never-67}
 
 -- every refusal has a number that is not 0
 pub refusal-number : (reason : Reason) → number reason ≢ 0
@@ -109,6 +110,12 @@ module _ (s : Settings) (storage keys : List ℕ) (ps : List Processor) (n : ℕ
   refused-by-table reason place =
       by-verdict (λ o. (o .answer ≡ Refused reason place) ↔ (table ≡ Stop reason place)) (λ q l e. ((λ h. cc), (λ h. cc)))
       (λ e. (λ h. absurd (refusal-number reason (sym (ap numberOf h) ∙ completed-number r)), λ h. absurd (not-clear h e)))
+
+  -- no request is refused by line 67
+  pub never-67 : numberOf (after .answer) ≢ 67
+  never-67 =
+      by-verdict (λ o. numberOf (o .answer) ≢ 67) (λ reason place e. rw e at (table-never-67 s (length storage) keys n (own ps n) r (length buffer)))
+      (λ e. rw (completed-number r) (omega arith))
 
   -- what a completed request leaves, and that its plan is clear
   pub completed-step : numberOf (after .answer) ≡ 0 → after ≡ completed s storage keys ps n (own ps n) r buffer

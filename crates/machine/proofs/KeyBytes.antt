@@ -25,12 +25,16 @@ pub key-of : (k : ℕ) → HasBits (keyOf k) (accessControl k) (fetchProtection 
 unfolding keyOf
 key-of k = key-byte _ _ _ _ (omega arith) (omega arith) (omega arith) (omega arith)
 
--- after a completed access: reference bit one, change bit one after a store and as before after a fetch, the rest as before
+-- the change bit after a completed access to a unit whose key was k: one after a store, as before after a fetch
 abbrev pub changeAfter : AccessKind → ℕ → ℕ
 changeAfter Fetch k = change k
 changeAfter Store k = 1
 
-pub key-recorded : (kind : AccessKind) (k : ℕ) → HasBits (recorded kind k) (accessControl k) (fetchProtection k) 1 (changeAfter kind k)
+-- after a completed access: reference bit one, the change bit as above, the rest as before
+abbrev pub Recorded : AccessKind → ℕ → ℕ → Type 0
+Recorded kind before after = HasBits after (accessControl before) (fetchProtection before) 1 (changeAfter kind before)
+
+pub key-recorded : (kind : AccessKind) (k : ℕ) → Recorded kind k (recorded kind k)
 unfolding afterFetch afterStore
 key-recorded Fetch k = key-byte _ _ _ _ (omega arith) (omega arith) (omega arith) (omega arith)
 key-recorded Store k = key-byte _ _ _ _ (omega arith) (omega arith) (omega arith) (omega arith)

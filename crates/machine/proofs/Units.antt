@@ -15,7 +15,8 @@ use Rattle.machine.specs.KeyInstructions.{keyCount}
 use Rattle.machine.proofs.Prefixing.{prefixing-keeps-offset, prefixing-maps-blocks}
 
 -- what holds with the 4K facility present and with it absent
-by-facility : (P : Settings → Type 0) → ((x : Bool) → P (record { «four_k» = true; extensions = x })) → ((x : Bool) → P (record { «four_k» = false; extensions = x })) → (s : Settings) → P s
+by-facility : (P : Settings → Type 0) → ((x : Bool) → P (record { «four_k» = true; extensions = x }))
+    → ((x : Bool) → P (record { «four_k» = false; extensions = x })) → (s : Settings) → P s
 by-facility P present absent s = go (s .«four_k»)
   where
     go : (b : Bool) → P (record { «four_k» = b; extensions = s .extensions })
@@ -77,7 +78,10 @@ module _ (s : Settings) where
   pub prefixing-maps-units : (prefix a b : ℕ) → unitOf s a ≡ unitOf s b → unitOf s (absolute prefix a) ≡ unitOf s (absolute prefix b)
   prefixing-maps-units prefix a b h =
       let same = same-unit-same-place (unitSize s) positive 4096 (keysOfBlock s) a b (units-of-block s) h in
-      rw (unit-in-block (absolute prefix a), unit-in-block (absolute prefix b), prefixing-maps-blocks prefix a b (same .0), prefixing-keeps-offset prefix a, prefixing-keeps-offset prefix b, same .1)
+      rw (at a, at b, prefixing-maps-blocks prefix a b (same .0), same .1)
+    where
+      at : (x : ℕ) → unitOf s (absolute prefix x) ≡ block (absolute prefix x) * keysOfBlock s + x % 4096 / unitSize s
+      at x = unit-in-block (absolute prefix x) ∙ rw (prefixing-keeps-offset prefix x)
 
   -- addresses in one unit before they wrap are in one unit after it
   wrapping-maps-units : (a b : ℕ) → unitOf s a ≡ unitOf s b → unitOf s (a % 16777216) ≡ unitOf s (b % 16777216)

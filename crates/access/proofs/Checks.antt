@@ -24,7 +24,7 @@ use Rattle.machine.specs.Answers.{line, firstOf, firstByte, firstLine}
 use Rattle.machine.specs.Prefixing.{byteAt}
 use Rattle.machine.specs.Protection.{lowProtected, permitted, forbidden}
 use Rattle.machine.specs.Table.{operandInvalid, absoluteOutside, addressing, absoluteAddressing, protection, plan, verdict}
-use Rattle.machine.proofs.Verdicts.{and-true-parts, or-false-parts, bytes-none, bytes-stop}
+use Rattle.machine.proofs.Verdicts.{both, neither, bytes-none, bytes-stop}
 use Rattle.access.specs.Runs.{second, twoTests, linesAt}
 use Rattle.access.proofs.Runs.{Run, second-below, before-second, from-second, real-below, byte-below, real-step, unit-same}
 
@@ -67,7 +67,7 @@ module _ (s : Settings) (m : ℕ) (e : m % 4096 ≡ 0) (p : Processor) (start f 
 
   permitted-later : (keys : List ℕ) (kind : AccessKind) → forbidden kind p (add24 start f) (getD keys (unitOf s (byteAt p start f)) 0) ≡ false → forbidden kind p (add24 start i) (getD keys (unitOf s (byteAt p start i)) 0) ≡ false
   permitted-later keys kind q =
-      let t = or-false-parts (lowProtected kind p (add24 start f)) _ q in
+      let t = neither (lowProtected kind p (add24 start f)) _ q in
       rw (low-later kind p (add24 start f) (add24 start i) (omega (arith, real-step s start f i r)) (t .0), unit-same s start f i r p) (t .1)
 
 module _ (s : Settings) (m : ℕ) (e : m % 4096 ≡ 0) (p : Processor) (start count : ℕ) (some : 0 < count) (few : count ≤ 256) where
@@ -96,8 +96,8 @@ by-unit s m keys n p kind start count b = go (lengthsValid s m (length keys)) re
   where
     go : (x : Bool) → lengthsValid s m (length keys) ≡ x → (y : Bool) → (ltb n 2 && recordValid m p) ≡ y → (z : Bool) → operandInvalid (Access kind start count) b ≡ z → byUnit s m keys n p kind start count b ≡ verdict s m keys n p (Access kind start count) b
     go true ex true ey false ez =
-        let e : m % 4096 ≡ 0 = eqb-true (m % 4096) 0 (and-true-parts _ _ (and-true-parts _ _ (and-true-parts _ _ ex .0) .0) .0) in
-        let few = or-false-parts _ _ (or-false-parts _ _ (or-false-parts _ _ ez .0) .0) in
+        let e : m % 4096 ≡ 0 = eqb-true (m % 4096) 0 (both _ _ (both _ _ (both _ _ ex .0) .0) .0) in
+        let few = neither _ _ (neither _ _ (neither _ _ ez .0) .0) in
         let some : 0 < count = pos-of-ne-zero (eqb-false count 0 (few .0)) in
         let most : count ≤ 256 = ltb-false 256 count (few .1) in
         rw (

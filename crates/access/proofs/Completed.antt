@@ -29,7 +29,7 @@ use Rattle.machine.specs.Protection.{recorded}
 use Rattle.machine.specs.Table.{absoluteOutside, addressing, absoluteAddressing, plan, verdict}
 use Rattle.machine.specs.Step.{outcome, storageLeft, bufferLeft, keysRecorded, completed, performed, step}
 use Rattle.machine.proofs.Written.{length-written, last-write, Last, none, last}
-use Rattle.machine.proofs.Verdicts.{and-true-parts, or-false-parts, first-clear, line-clear, bytes-clear}
+use Rattle.machine.proofs.Verdicts.{both, neither, first-clear, line-clear, bytes-clear}
 use Rattle.access.specs.Runs.{left, second, bothRecorded}
 use Rattle.access.specs.Passed.{Passed}
 use Rattle.access.proofs.Moves.{one-run, two-runs}
@@ -43,10 +43,10 @@ passed s m keys n p kind start count b e =
     let l66 = first-clear _ _ (l65 .1) in
     let l6 = first-clear _ _ (first-clear _ _ (first-clear _ _ (first-clear _ _ (l66 .1) .1) .1) .1) in
     let l5 = first-clear _ _ (l6 .1) in
-    let lengths = and-true-parts _ _ (not-false _ (line-clear _ _ (l64 .0))) in
-    let sizes = and-true-parts _ _ (and-true-parts _ _ (lengths .0) .0) in
-    let operands = or-false-parts _ _ (line-clear _ _ (l66 .0)) in
-    let counts = or-false-parts _ _ (or-false-parts _ _ (operands .0) .0) in
+    let lengths = both _ _ (not-false _ (line-clear _ _ (l64 .0))) in
+    let sizes = both _ _ (both _ _ (lengths .0) .0) in
+    let operands = neither _ _ (line-clear _ _ (l66 .0)) in
+    let counts = neither _ _ (neither _ _ (operands .0) .0) in
     let real = bytes-clear Addressing (λ i. leb m (add24 start i)) count (l5 .0) in
     let beyond = bytes-clear AbsoluteAddress (λ i. absoluteOutside m p (add24 start i)) count (first-clear _ _ (l5 .1) .0) in
     record {

@@ -2,3 +2,4 @@
 pub mod Written
 pub mod Verdicts
 pub mod SmallFacts
+pub mod Actions

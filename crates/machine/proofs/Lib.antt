@@ -3,3 +3,6 @@ pub mod Written
 pub mod Verdicts
 pub mod SmallFacts
 pub mod Actions
+pub mod Locality
+pub mod Parts
+pub mod Plans

@@ -26,24 +26,24 @@ Leaves write t v w = Unit {0}
 
 -- two actions in these modes do not disturb each other
 pub data Free : Mode → Mode → Type 0 where
-  left : {b : Mode} → Free none b
-  right : {a : Mode} → Free a none
-  both : {c d : Bool} → Free (fetch c) (fetch d)
+  only-first : {a : Mode} → Free a none
+  only-second : {b : Mode} → Free none b
+  fetches : {c d : Bool} → Free (fetch c) (fetch d)
 
 -- what is asked of the actions: the parts are the whole state; each part is left as its mode says; and to an action to which two states
 -- are alike in every part they are the same in its modes, in what it gives back and in what it writes
-pub record Laws (S A R U : Type 0) (P : U → Type 0) (leave : S → A → S) (give : S → A → R) (mode : S → A → U → Mode) (read : S → (u : U) → P u) (touch : (u : U) → P u → P u) : Type 0 where
+pub record Laws (S A R U : Type 0) (P : U → Type 0) (next : S → A → S) (give : S → A → R) (mode : S → A → U → Mode) (read : S → (u : U) → P u) (touch : (u : U) → P u → P u) : Type 0 where
   pub whole : (m n : S) → ((u : U) → read m u ≡ read n u) → m ≡ n
   pub touch-twice : (u : U) (v : P u) → touch u (touch u v) ≡ touch u v
-  pub leaves : (m : S) (x : A) (u : U) → Leaves (mode m x u) (touch u) (read m u) (read (leave m x) u)
+  pub leaves : (m : S) (x : A) (u : U) → Leaves (mode m x u) (touch u) (read m u) (read (next m x) u)
   pub same-mode : (m n : S) (x : A) → ((u : U) → Alike (mode m x u) (touch u) (read m u) (read n u)) → (u : U) → mode n x u ≡ mode m x u
   pub same-given : (m n : S) (x : A) → ((u : U) → Alike (mode m x u) (touch u) (read m u) (read n u)) → give n x ≡ give m x
-  pub same-written : (m n : S) (x : A) → ((u : U) → Alike (mode m x u) (touch u) (read m u) (read n u)) → (u : U) → mode m x u ≡ write → read (leave n x) u ≡ read (leave m x) u
+  pub same-written : (m n : S) (x : A) → ((u : U) → Alike (mode m x u) (touch u) (read m u) (read n u)) → (u : U) → mode m x u ≡ write → read (next n x) u ≡ read (next m x) u
 
 swap : {a b : Mode} → Free a b → Free b a
-swap left = right
-swap right = left
-swap both = both
+swap only-first = only-second
+swap only-second = only-first
+swap fetches = fetches
 
 module _ {P : Type 0} (t : P → P) (twice : (v : P) → t (t v) ≡ t v) (v : P) where
   same : (b : Mode) (w : P) → w ≡ v → Alike b t v w
@@ -57,9 +57,9 @@ module _ {P : Type 0} (t : P → P) (twice : (v : P) → t (t v) ≡ t v) (v : P
 
   -- what an action leaves of v is alike to one that it does not disturb
   undisturbed : {a b : Mode} (w : P) → Free a b → Leaves a t v w → Alike b t v w
-  undisturbed w (left {b = b}) e = same b w e
-  undisturbed w right e = tt
-  undisturbed w (both {c = c}) e = touched c w e
+  undisturbed w (only-second {b = b}) e = same b w e
+  undisturbed w only-first e = tt
+  undisturbed w (fetches {c = c}) e = touched c w e
 
   -- one action makes x of v and then q of y, the other makes y of v and then p of x
   module _ (x y p q : P) where
@@ -69,49 +69,49 @@ module _ {P : Type 0} (t : P → P) (twice : (v : P) → t (t v) ≡ t v) (v : P
     beside (fetch false) e f g h w = cc
     beside write e f g h w = w refl ∙ sym f
 
-    fetches : (c d : Bool) → x ≡ cond c (t v) v → q ≡ cond c (t y) y → y ≡ cond d (t v) v → p ≡ cond d (t x) x → p ≡ q
-    fetches true true e f g h = cc
-    fetches true false e f g h = cc
-    fetches false true e f g h = cc
-    fetches false false e f g h = cc
+    touch-both : (c d : Bool) → x ≡ cond c (t v) v → q ≡ cond c (t y) y → y ≡ cond d (t v) v → p ≡ cond d (t x) x → p ≡ q
+    touch-both true true e f g h = cc
+    touch-both true false e f g h = cc
+    touch-both false true e f g h = cc
+    touch-both false false e f g h = cc
 
   meet : {a b : Mode} (x y p q : P) → Free a b → Leaves a t v x → Leaves a t y q → (a ≡ write → q ≡ x) → Leaves b t v y → Leaves b t x p → (b ≡ write → p ≡ y) → p ≡ q
-  meet x y p q (left {b = b}) e f k g h l = beside x y p q b e f g h l
-  meet x y p q (right {a = a}) e f k g h l = sym (beside y x q p a g h e f k)
-  meet x y p q (both {c = c} {d = d}) e f k g h l = fetches x y p q c d e f g h
+  meet x y p q (only-second {b = b}) e f k g h l = beside x y p q b e f g h l
+  meet x y p q (only-first {a = a}) e f k g h l = sym (beside y x q p a g h e f k)
+  meet x y p q (fetches {c = c} {d = d}) e f k g h l = touch-both x y p q c d e f g h
 
-module _ {S A : Type 0} (leave : S → A → S) where
-  pub every : (p q : S → A → Type 0) (m : S) (xs : List A) → ((n : S) (x : A) → p n x → q n x) → Every leave p m xs → Every leave q m xs
+module _ {S A : Type 0} (next : S → A → S) where
+  pub every : (p q : S → A → Type 0) (m : S) (xs : List A) → ((n : S) (x : A) → p n x → q n x) → Every next p m xs → Every next q m xs
   every p q m [] f h = tt
-  every p q m (x ∷ xs) f h = (f m x (h .0), every p q (leave m x) xs f (h .1))
+  every p q m (x ∷ xs) f h = (f m x (h .0), every p q (next m x) xs f (h .1))
 
 abbrev through : {S A : Type 0} → (S → A → S) → S → List A → S
-through leave m [] = m
-through leave m (x ∷ xs) = through leave (leave m x) xs
+through next m [] = m
+through next m (x ∷ xs) = through next (next m x) xs
 
 abbrev gives : {S A R : Type 0} → (S → A → S) → (S → A → R) → S → List A → List R
-gives leave give m [] = []
-gives leave give m (x ∷ xs) = give m x ∷ gives leave give (leave m x) xs
+gives next give m [] = []
+gives next give m (x ∷ xs) = give m x ∷ gives next give (next m x) xs
 
-module _ {S A R U : Type 0} {P : U → Type 0} {leave : S → A → S} {give : S → A → R} {mode : S → A → U → Mode} {read : S → (u : U) → P u} {touch : (u : U) → P u → P u} (laws : Laws S A R U P leave give mode read touch) where
+module _ {S A R U : Type 0} {P : U → Type 0} {next : S → A → S} {give : S → A → R} {mode : S → A → U → Mode} {read : S → (u : U) → P u} {touch : (u : U) → P u → P u} (laws : Laws S A R U P next give mode read touch) where
   -- y after x, and x does not disturb it
   module _ (m : S) (x y : A) (free : (u : U) → Free (mode m x u) (mode m y u)) where
-    alike : (u : U) → Alike (mode m y u) (touch u) (read m u) (read (leave m x) u)
+    alike : (u : U) → Alike (mode m y u) (touch u) (read m u) (read (next m x) u)
     alike u = undisturbed (touch u) (laws .touch-twice u) _ _ (free u) (laws .leaves m x u)
 
-    later-mode : (u : U) → mode (leave m x) y u ≡ mode m y u
-    later-mode = laws .same-mode m (leave m x) y alike
+    later-mode : (u : U) → mode (next m x) y u ≡ mode m y u
+    later-mode = laws .same-mode m (next m x) y alike
 
-    later-given : give (leave m x) y ≡ give m y
-    later-given = laws .same-given m (leave m x) y alike
+    later-given : give (next m x) y ≡ give m y
+    later-given = laws .same-given m (next m x) y alike
 
-    later-written : (u : U) → mode m y u ≡ write → read (leave (leave m x) y) u ≡ read (leave m y) u
-    later-written = laws .same-written m (leave m x) y alike
+    later-written : (u : U) → mode m y u ≡ write → read (next (next m x) y) u ≡ read (next m y) u
+    later-written = laws .same-written m (next m x) y alike
 
-    later-leaves : (u : U) → Leaves (mode m y u) (touch u) (read (leave m x) u) (read (leave (leave m x) y) u)
-    later-leaves u = rw (later-mode u) at (laws .leaves (leave m x) y u)
+    later-leaves : (u : U) → Leaves (mode m y u) (touch u) (read (next m x) u) (read (next (next m x) y) u)
+    later-leaves u = rw (later-mode u) at (laws .leaves (next m x) y u)
 
-  commute : (m : S) (x y : A) → ((u : U) → Free (mode m x u) (mode m y u)) → leave (leave m x) y ≡ leave (leave m y) x
+  commute : (m : S) (x y : A) → ((u : U) → Free (mode m x u) (mode m y u)) → next (next m x) y ≡ next (next m y) x
   commute m x y free =
       laws .whole _ _ (λ u.
       meet (touch u) (laws .touch-twice u) _ _ _ _ _ (free u)
@@ -123,15 +123,15 @@ module _ {S A R U : Type 0} {P : U → Type 0} {leave : S → A → S} {give : S
 
   -- x before a list leaves and gives back what it does after it, and the list keeps its modes and what it gives back
   record Passed (m : S) (x : A) (ys : List A) : Type 1 where
-    past : through leave (leave m x) ys ≡ leave (through leave m ys) x
-    same-gives : gives leave give (leave m x) ys ≡ gives leave give m ys
-    same-modes : (p : Mode → Type 0) (u : U) → Every leave (λ n y. p (mode n y u)) m ys → Every leave (λ n y. p (mode n y u)) (leave m x) ys
+    past : through next (next m x) ys ≡ next (through next m ys) x
+    same-gives : gives next give (next m x) ys ≡ gives next give m ys
+    same-modes : (p : Mode → Type 0) (u : U) → Every next (λ n y. p (mode n y u)) m ys → Every next (λ n y. p (mode n y u)) (next m x) ys
 
-  pass : (m : S) (x : A) (ys : List A) → ((u : U) → Every leave (λ n y. Free (mode m x u) (mode n y u)) m ys) → Passed m x ys
+  pass : (m : S) (x : A) (ys : List A) → ((u : U) → Every next (λ n y. Free (mode m x u) (mode n y u)) m ys) → Passed m x ys
   pass m x [] free = record { past = refl; same-gives = refl; same-modes = λ p u h. tt }
-  pass m x (y ∷ ys) free = go (pass (leave m y) x ys (λ u. rw (later-mode m y x (λ v. swap (free v .0)) u) (free u .1)))
+  pass m x (y ∷ ys) free = go (pass (next m y) x ys (λ u. rw (later-mode m y x (λ v. swap (free v .0)) u) (free u .1)))
     where
-      go : Passed (leave m y) x ys → Passed m x (y ∷ ys)
+      go : Passed (next m y) x ys → Passed m x (y ∷ ys)
       go next =
           record {
             past = rw (commute m x y (λ u. free u .0)) (next .past);
@@ -141,18 +141,18 @@ module _ {S A R U : Type 0} {P : U → Type 0} {leave : S → A → S} {give : S
 
   -- each action of xs and each of ys, in the runs of the lists alone, are apart at u
   abbrev pub AllFree : S → List A → List A → U → Type 0
-  AllFree m xs ys u = Every leave (λ k x. Every leave (λ n y. Free (mode k x u) (mode n y u)) m ys) m xs
+  AllFree m xs ys u = Every next (λ k x. Every next (λ n y. Free (mode k x u) (mode n y u)) m ys) m xs
 
   -- in any order the end is that of the first list and then the second, and each action gives back what it gives where its list runs alone
-  turns : (m : S) {xs ys : List A} (o : Order xs ys) → ((u : U) → AllFree m xs ys u) → run leave give m o ≡ record { state = through leave (through leave m xs) ys; first = gives leave give m xs; second = gives leave give m ys }
+  turns : (m : S) {xs ys : List A} (o : Order xs ys) → ((u : U) → AllFree m xs ys u) → run next give m o ≡ record { state = through next (through next m xs) ys; first = gives next give m xs; second = gives next give m ys }
   unfolding run
   turns m done free = refl
   turns m (first {x = x} {xs = xs} {ys = ys} o) free =
       let passed = pass m x ys (λ u. free u .0) in
-      rw (turns (leave m x) o (λ u. every leave _ _ (leave m x) xs (λ k z h. passed .same-modes (Free (mode k z u)) u h) (free u .1)), passed .same-gives)
+      rw (turns (next m x) o (λ u. every next _ _ (next m x) xs (λ k z h. passed .same-modes (Free (mode k z u)) u h) (free u .1)), passed .same-gives)
   turns m (second {y = y} {xs = xs} {ys = ys} o) free =
-      let passed = pass m y xs (λ u. every leave _ _ m xs (λ k x h. swap (h .0)) (free u)) in
-      rw (turns (leave m y) o (λ u. passed .same-modes (λ a. Every leave (λ n z. Free a (mode n z u)) (leave m y) ys) u (every leave _ _ m xs (λ k x h. h .1) (free u))), passed .past, passed .same-gives)
+      let passed = pass m y xs (λ u. every next _ _ m xs (λ k x h. swap (h .0)) (free u)) in
+      rw (turns (next m y) o (λ u. passed .same-modes (λ a. Every next (λ n z. Free a (mode n z u)) (next m y) ys) u (every next _ _ m xs (λ k x h. h .1) (free u))), passed .past, passed .same-gives)
 
-  pub any-turns : (m : S) {xs ys : List A} (o p : Order xs ys) → ((u : U) → AllFree m xs ys u) → run leave give m o ≡ run leave give m p
+  pub any-turns : (m : S) {xs ys : List A} (o p : Order xs ys) → ((u : U) → AllFree m xs ys u) → run next give m o ≡ run next give m p
   any-turns m o p free = turns m o free ∙ sym (turns m p free)

@@ -4,5 +4,6 @@ pub mod Verdicts
 pub mod SmallFacts
 pub mod Actions
 pub mod Locality
-pub mod Parts
 pub mod Plans
+pub mod Parts
+pub mod Turns

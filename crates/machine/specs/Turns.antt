@@ -30,20 +30,20 @@ pub record End (S R : Type 0) : Type 0 where
   pub first : List R
   pub second : List R
 
--- the run in an order of turns. An element x that finds the state m leaves the state `leave m x` and gives back `give m x`
-unfoldable pub run : {S A R : Type 0} (leave : S → A → S) (give : S → A → R) (m : S) {xs ys : List A} → Order xs ys → End S R
-run leave give m done = record { state = m; first = []; second = [] }
-run leave give m (first {x = x} o) =
-    let e = run leave give (leave m x) o in
+-- the run in an order of turns. An element x that finds the state m leaves the state `next m x` and gives back `give m x`
+unfoldable pub run : {S A R : Type 0} (next : S → A → S) (give : S → A → R) (m : S) {xs ys : List A} → Order xs ys → End S R
+run next give m done = record { state = m; first = []; second = [] }
+run next give m (first {x = x} o) =
+    let e = run next give (next m x) o in
     record { state = e .state; first = give m x ∷ e .first; second = e .second }
-run leave give m (second {y = y} o) =
-    let e = run leave give (leave m y) o in
+run next give m (second {y = y} o) =
+    let e = run next give (next m y) o in
     record { state = e .state; first = e .first; second = give m y ∷ e .second }
 
 -- every element of a list that runs alone has the property p together with the state that it finds
 abbrev pub Every : {S A : Type 0} → (S → A → S) → (S → A → Type 0) → S → List A → Type 0
-Every leave p m [] = Unit {0}
-Every leave p m (x ∷ xs) = p m x × Every leave p (leave m x) xs
+Every next p m [] = Unit {0}
+Every next p m (x ∷ xs) = p m x × Every next p (next m x) xs
 
 -- The machine's lists.
 
@@ -67,8 +67,8 @@ pub record Given : Type 0 where
 abbrev pub outcome : Settings → State → Turn → Outcome
 outcome s m t = step s (m .storage) (m .keys) (m .processors) (t .number) (t .request) (t .buffer)
 
-abbrev pub left : Settings → State → Turn → State
-left s m t = let o = outcome s m t in record { storage = o .storage; keys = o .keys; processors = o .processors }
+abbrev pub next : Settings → State → Turn → State
+next s m t = let o = outcome s m t in record { storage = o .storage; keys = o .keys; processors = o .processors }
 
 abbrev pub given : Settings → State → Turn → Given
 given s m t = let o = outcome s m t in record { answer = o .answer; buffer = o .buffer }
@@ -99,16 +99,16 @@ FetchesOnly s u m t = named s u m t ≡ true → isFetch (t .request) ≡ true
 -- unit u is named by one list only, or by fetches only; each list runs alone from m
 abbrev pub Apart : Settings → State → List Turn → List Turn → ℕ → Type 0
 Apart s m xs ys u =
-    Every (left s) (Unnamed s u) m xs
-    ⊎ (Every (left s) (Unnamed s u) m ys
-    ⊎ (Every (left s) (FetchesOnly s u) m xs × Every (left s) (FetchesOnly s u) m ys))
+    Every (next s) (Unnamed s u) m xs
+    ⊎ (Every (next s) (Unnamed s u) m ys
+    ⊎ (Every (next s) (FetchesOnly s u) m xs × Every (next s) (FetchesOnly s u) m ys))
 
 -- the claim: the first list is processor 0's, the second processor 1's; any two orders of turns end with the same storage, keys and
 -- records, and give back the same answer and buffer request by request
 abbrev pub AnyOrder : Type 0
 AnyOrder =
     (s : Settings) (m : State) (xs ys : List Turn)
-    → Every (left s) (λ n t. Carries 0 t) m xs
-    → Every (left s) (λ n t. Carries 1 t) m ys
+    → Every (next s) (λ n t. Carries 0 t) m xs
+    → Every (next s) (λ n t. Carries 1 t) m ys
     → ((u : ℕ) → Apart s m xs ys u)
-    → (o p : Order xs ys) → run (left s) (given s) m o ≡ run (left s) (given s) m p
+    → (o p : Order xs ys) → run (next s) (given s) m o ≡ run (next s) (given s) m p

@@ -7,3 +7,4 @@ pub mod Locality
 pub mod Plans
 pub mod Parts
 pub mod Turns
+pub mod TurnFacts

@@ -12,3 +12,8 @@ pub mod Accesses
 pub mod KeyInstructions
 pub mod Named
 pub mod Order
+pub mod Actions
+pub mod Locality
+pub mod Parts
+pub mod Turns
+pub mod TurnFacts

@@ -14,12 +14,18 @@ use Rattle.machine.specs.declared.Request.the-variants.{Access}
 use Rattle.machine.specs.declared.Reason.the-variants.{Addressing}
 use Rattle.machine.specs.declared.Verdict.the-variants.{Clear}
 use Rattle.machine.specs.Numbers.{storageValid, lengthsValid, recordValid, unitSize, unitOf, add24}
-use Rattle.machine.specs.Answers.{firstLine}
+use Rattle.machine.specs.Answers.{line, firstOf, firstLine}
 use Rattle.machine.specs.Prefixing.{byteAt}
 use Rattle.machine.specs.Table.{operandInvalid, addressing, plan}
 use Rattle.machine.proofs.Verdicts.{both, neither, line-clear, first-clear, bytes-clear}
 use Rattle.machine.proofs.Prefixing.{prefixing-stays-inside}
 use Rattle.machine.proofs.Units.{unit-inside}
+
+-- of a number that isn't 0 or 1 the plan looks at no record
+pub no-record : (s : Settings) (storageLength keyLength n : ℕ) (p q : Processor) (r : Request) (bufferLength : ℕ)
+    → ltb n 2 ≡ false → plan s storageLength keyLength n p r bufferLength ≡ plan s storageLength keyLength n q r bufferLength
+unfolding plan firstLine firstOf line
+no-record s storageLength keyLength n p q r bufferLength e = rw e
 
 -- what lines 64 and 65 let pass: storage of whole blocks, a key for each unit of it, the prefix below its end
 pub record Configured (s : Settings) (storageLength keyLength : ℕ) (p : Processor) : Type 0 where

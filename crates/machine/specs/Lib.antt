@@ -9,4 +9,5 @@ pub mod KeyInstructions
 pub mod Table
 pub mod Step
 pub mod Units
+pub mod Turns
 pub mod SmallFacts

@@ -1,0 +1,82 @@
+-- Rows 19 and 20 of the table of small facts, on every storage of 65,536 bytes and whatever the bytes stored. Row 19 follows from the claim
+-- about any order, and row 20 shows that the claim needs its hypothesis. The steps are computed. Assumes nothing.
+use mathlib.Core.Path.{_≡_, refl, sym, ap, _∙_}
+use mathlib.Core.Bool.{true, false}
+use mathlib.Core.Logic.{_≢_, inl, inr}
+use mathlib.Core.List.{List, [], _∷_}
+use Prim.Native.Nat.{ℕ}
+use native.Mathlib.Decide.{ℕ-discrete}
+use native.Mathlib.Omega.{arith}
+use lib.ListN.{length, getD, set, replicate, length-set}
+use lib.Seq.{getD-set-same, set-set}
+use borrow.Author.Tests.{ne-eqb}
+use Rattle.machine.specs.declared.Settings.{Settings}
+use Rattle.machine.specs.declared.Processor.{Processor}
+use Rattle.machine.specs.declared.Request.the-variants.{Access}
+use Rattle.machine.specs.declared.AccessKind.the-variants.{Store}
+use Rattle.machine.specs.Numbers.{written}
+use Rattle.machine.specs.Key.{afterStore}
+use Rattle.machine.specs.Answers.{line, firstOf, firstByte, firstLine}
+use Rattle.machine.specs.Prefixing.{absolute}
+use Rattle.machine.specs.Protection.{permitted, lowProtected}
+use Rattle.machine.specs.Table.{addressing, absoluteAddressing, protection, plan, verdict}
+use Rattle.machine.specs.Step.{storageLeft, bufferLeft, keysRecorded, completed, performed, step}
+use Rattle.machine.specs.Units.{some, names}
+use Rattle.machine.specs.Turns.{Order, done, first, second, End, run, State, Turn, Given, next, given, Apart}
+use Rattle.machine.proofs.Turns.{any-order}
+
+-- 2K units, extensions present; prefixes 0 and 4096, PSW key 0, supervisor, bit 3 off; zero keys
+abbrev settings : Settings
+settings = record { «four_k» = false; extensions = true }
+
+abbrev processor : ℕ → Processor
+processor prefix = record { key = 0; problem = false; «low_protection» = false; «key_control» = false; prefix = prefix; code = 0 }
+
+abbrev start : List ℕ → State
+start storage = record { storage = storage; keys = replicate 32 0; processors = processor 0 ∷ processor 4096 ∷ [] }
+
+-- processor n stores one byte at a real address
+abbrev store : ℕ → ℕ → ℕ → Turn
+store n real b = record { number = n; request = Access Store real 1; buffer = b ∷ [] }
+
+abbrev ending : List ℕ → {xs ys : List Turn} → Order xs ys → End State Given
+ending storage o = run (next settings) (given settings) (start storage) o
+
+module _ (storage : List ℕ) (h : length storage ≡ 65536) where
+  -- 19: both store at real 0, twice each. Processor 0 names unit 0 only and processor 1 unit 2 only, and all orders agree
+  module _ (a b c d : ℕ) where
+    abbrev firsts : List Turn
+    firsts = store 0 0 a ∷ store 0 0 b ∷ []
+
+    abbrev seconds : List Turn
+    seconds = store 1 0 c ∷ store 1 0 d ∷ []
+
+    pub disjoint-units : (u : ℕ) → Apart settings (start storage) firsts seconds u
+    unfolding written afterStore line firstOf firstByte firstLine absolute permitted lowProtected addressing absoluteAddressing protection plan verdict storageLeft bufferLeft keysRecorded completed performed step some names
+    disjoint-units u = go (ℕ-discrete 0 u)
+      where
+        go : Dec (0 ≡ u) → Apart settings (start storage) firsts seconds u
+        go (yes e) = inr (inl (rw (h, ← e), (rw (h, length-set storage 4096 c, h, ← e), tt)))
+        go (no e) = inl (rw (h, ne-eqb 0 u e), (rw (h, length-set storage 0 a, h, ne-eqb 0 u e), tt))
+
+    pub orders-agree : (o p : Order firsts seconds) → ending storage o ≡ ending storage p
+    orders-agree = any-order settings (start storage) firsts seconds (inl refl, (inl refl, tt)) (inl refl, (inl refl, tt)) disjoint-units
+
+  -- 20: different bytes stored at real 0 by the first and at real 4096 by the second. Both are absolute 0, and the order matters
+  module _ (a b : ℕ) (different : a ≢ b) where
+    abbrev secondLast : Order (store 0 0 a ∷ []) (store 1 4096 b ∷ [])
+    secondLast = first (second done)
+
+    abbrev firstLast : Order (store 0 0 a ∷ []) (store 1 4096 b ∷ [])
+    firstLast = second (first done)
+
+    bytes-left : (getD (ending storage secondLast .state .storage) 0 0 ≡ b) × (getD (ending storage firstLast .state .storage) 0 0 ≡ a)
+    unfolding run written afterStore line firstOf firstByte firstLine absolute permitted lowProtected addressing absoluteAddressing protection plan verdict storageLeft bufferLeft keysRecorded completed performed step
+    bytes-left =
+        (rw (h, length-set storage 0 a, h, set-set storage 0 a b) (getD-set-same storage 0 b 0 (omega arith)), rw (h, length-set storage 0 b, h, set-set storage 0 b a) (getD-set-same storage 0 a 0 (omega arith)))
+
+    pub order-matters : ending storage secondLast .state .storage ≢ ending storage firstLast .state .storage
+    order-matters e = different (sym (bytes-left .1) ∙ ap (λ l. getD l 0 0) (sym e) ∙ bytes-left .0)
+
+    pub shared-unit : ¬ ((u : ℕ) → Apart settings (start storage) (store 0 0 a ∷ []) (store 1 4096 b ∷ []) u)
+    shared-unit apart = order-matters (ap (λ e. e .state .storage) (any-order settings (start storage) _ _ (inl refl, tt) (inl refl, tt) apart secondLast firstLast))

@@ -1,0 +1,114 @@
+-- Condition 3: the order of turns does not matter. What a list is, the units that it names, the orders of turns of two lists, and the claim.
+use Prim.Native.Nat.{ℕ, _≤_}
+use mathlib.Core.Path.{_≡_}
+use mathlib.Core.Bool.{Bool, true, false}
+use mathlib.Core.Logic.{_⊎_}
+use mathlib.Core.List.{List, [], _∷_}
+use lib.ListN.{length}
+use Rattle.machine.specs.declared.Settings.{Settings}
+use Rattle.machine.specs.declared.Processor.{Processor}
+use Rattle.machine.specs.declared.Request.{Request}
+use Rattle.machine.specs.declared.Request.the-variants.{Access, Key, Prefix}
+use Rattle.machine.specs.declared.AccessKind.the-variants.{Fetch, Store}
+use Rattle.machine.specs.declared.Answer.{Answer}
+use Rattle.machine.specs.Numbers.{own}
+use Rattle.machine.specs.Table.{plan}
+use Rattle.machine.specs.Step.{Outcome, step}
+use Rattle.machine.specs.Units.{names}
+
+-- Lists of anything, in turns.
+
+-- an order of turns of two lists: each list's own order is kept
+pub data Order {A : Type 0} : List A → List A → Type 0 where
+  done : Order [] []
+  first : {x : A} {xs ys : List A} → Order xs ys → Order (x ∷ xs) ys
+  second : {y : A} {xs ys : List A} → Order xs ys → Order xs (y ∷ ys)
+
+-- the end of a run: the state, and what each element of the first list and of the second gave back
+pub record End (S R : Type 0) : Type 0 where
+  pub state : S
+  pub first : List R
+  pub second : List R
+
+-- the run in an order of turns. An element x that finds the state m leaves the state `next m x` and gives back `give m x`
+unfoldable pub run : {S A R : Type 0} (next : S → A → S) (give : S → A → R) (m : S) {xs ys : List A} → Order xs ys → End S R
+run next give m done = record { state = m; first = []; second = [] }
+run next give m (first {x = x} o) =
+    let e = run next give (next m x) o in
+    record { state = e .state; first = give m x ∷ e .first; second = e .second }
+run next give m (second {y = y} o) =
+    let e = run next give (next m y) o in
+    record { state = e .state; first = e .first; second = give m y ∷ e .second }
+
+-- every element of a list that runs alone has the property p together with the state that it finds
+abbrev pub Every : {S A : Type 0} → (S → A → S) → (S → A → Type 0) → S → List A → Type 0
+Every next p m [] = Unit {0}
+Every next p m (x ∷ xs) = p m x × Every next p (next m x) xs
+
+-- The machine's lists.
+
+-- what each request gets from the one before it; the settings stay
+pub record State : Type 0 where
+  pub storage : List ℕ
+  pub keys : List ℕ
+  pub processors : List Processor
+
+-- a request of a list, with the processor number that it carries and its own buffer, as it stands before every run
+pub record Turn : Type 0 where
+  pub number : ℕ
+  pub request : Request
+  pub buffer : List ℕ
+
+-- what a request gives back: the whole answer and the whole buffer
+pub record Given : Type 0 where
+  pub answer : Answer
+  pub buffer : List ℕ
+
+abbrev pub outcome : Settings → State → Turn → Outcome
+outcome s m t = step s (m .storage) (m .keys) (m .processors) (t .number) (t .request) (t .buffer)
+
+abbrev pub next : Settings → State → Turn → State
+next s m t = let o = outcome s m t in record { storage = o .storage; keys = o .keys; processors = o .processors }
+
+abbrev pub given : Settings → State → Turn → Given
+given s m t = let o = outcome s m t in record { answer = o .answer; buffer = o .buffer }
+
+-- a request of processor i's list carries i, or a number that isn't 0 or 1
+abbrev pub Carries : ℕ → Turn → Type 0
+Carries i t = (t .number ≡ i) ⊎ (2 ≤ t .number)
+
+-- a request that finds the state m names unit u
+abbrev pub named : Settings → ℕ → State → Turn → Bool
+named s u m t =
+    let p = own (m .processors) (t .number) in
+    names (plan s (length (m .storage)) (length (m .keys)) (t .number) p (t .request) (length (t .buffer))) s p (t .request) u
+
+abbrev pub isFetch : Request → Bool
+isFetch (Access Fetch start count) = true
+isFetch (Access Store start count) = false
+isFetch (Key i) = false
+isFetch (Prefix i) = false
+
+abbrev pub Unnamed : Settings → ℕ → State → Turn → Type 0
+Unnamed s u m t = named s u m t ≡ false
+
+-- if it names unit u, it is a fetch
+abbrev pub FetchesOnly : Settings → ℕ → State → Turn → Type 0
+FetchesOnly s u m t = named s u m t ≡ true → isFetch (t .request) ≡ true
+
+-- unit u is named by one list only, or by fetches only; each list runs alone from m
+abbrev pub Apart : Settings → State → List Turn → List Turn → ℕ → Type 0
+Apart s m xs ys u =
+    Every (next s) (Unnamed s u) m xs
+    ⊎ (Every (next s) (Unnamed s u) m ys
+    ⊎ (Every (next s) (FetchesOnly s u) m xs × Every (next s) (FetchesOnly s u) m ys))
+
+-- the claim: the first list is processor 0's, the second processor 1's; any two orders of turns end with the same storage, keys and
+-- records, and give back the same answer and buffer request by request
+abbrev pub AnyOrder : Type 0
+AnyOrder =
+    (s : Settings) (m : State) (xs ys : List Turn)
+    → Every (next s) (λ n t. Carries 0 t) m xs
+    → Every (next s) (λ n t. Carries 1 t) m ys
+    → ((u : ℕ) → Apart s m xs ys u)
+    → (o p : Order xs ys) → run (next s) (given s) m o ≡ run (next s) (given s) m p

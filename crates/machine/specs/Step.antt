@@ -13,6 +13,7 @@ use Rattle.machine.specs.declared.PrefixInstruction.{PrefixInstruction}
 use Rattle.machine.specs.declared.PrefixInstruction.the-variants.{SetPrefix, StorePrefix}
 use Rattle.machine.specs.declared.Answer.{Answer}
 use Rattle.machine.specs.declared.Answer.the-variants.{Completed, Refused}
+use Rattle.machine.specs.declared.Reply.{Reply}
 use Rattle.machine.specs.declared.Verdict.{Verdict}
 use Rattle.machine.specs.declared.Verdict.the-variants.{Clear, Stop}
 use Rattle.machine.specs.Numbers.{own, unitOf, written}
@@ -28,6 +29,11 @@ pub record Outcome : Type 0 where
   pub keys : List ℕ
   pub processors : List Processor
   pub buffer : List ℕ
+
+-- the outcome of a call with this reply, which leaves these in storage, key array and buffer
+abbrev pub outcome : Reply → List ℕ → List ℕ → List ℕ → Outcome
+outcome r storage keys buffer =
+    record { answer = r .answer; storage = storage; keys = keys; processors = r .processors; buffer = buffer }
 
 -- a record with another condition code, and with another prefix
 abbrev pub withCode : Processor → ℕ → Processor

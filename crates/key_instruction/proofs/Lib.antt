@@ -1,2 +1,3 @@
 -- The laws that several proofs share.
 pub mod Lines
+pub mod Keys

@@ -62,7 +62,7 @@ fn address_lines(storage_length: usize, p: Processor, instruction: KeyInstructio
 }
 
 // The lines from 64 to 67; p is the record of the processor with this number.
-pub fn verdict(
+pub(crate) fn verdict(
     settings: Settings,
     storage_length: usize,
     key_length: usize,

@@ -1,11 +1,12 @@
 // What a key instruction names: its block, its operation, and whether it is an extended one; and what the table asks of its operands.
 use machine::KeyInstruction;
 use machine::KeyOperation;
+use machine::Settings;
 ghost use mathlib.Core.Path.{_≡_};
-ghost use Rattle.machine.specs.KeyInstructions.{extended as isExtended, block2K, block4K, designated as designatedBy, addressInvalid, unspecified as isUnspecified, operation as operationOf};
+ghost use Rattle.machine.specs.KeyInstructions.{extended as isExtended, block2K, block4K, designated as designatedBy, addressInvalid, unspecified as isUnspecified, operation as operationOf, twoKeys};
 
 // ISKE, SSKE and RRBE.
-pub fn extended(instruction: KeyInstruction) -> bool
+pub(crate) fn extended(instruction: KeyInstruction) -> bool
     ensures { λ r. ⌜ r ≡ isExtended instruction ⌝ }
 {
     match instruction {
@@ -33,7 +34,7 @@ fn block_4k(word: u32) -> u32
 }
 
 // The real address of the block that an instruction designates.
-pub fn designated(instruction: KeyInstruction) -> u32
+pub(crate) fn designated(instruction: KeyInstruction) -> u32
     ensures { λ r. ⌜ r ≡ designatedBy instruction ⌝ }
 {
     match instruction {
@@ -47,7 +48,7 @@ pub fn designated(instruction: KeyInstruction) -> u32
 }
 
 // The address of RRB is 16,777,216 or more.
-pub fn address_invalid(instruction: KeyInstruction) -> bool
+pub(crate) fn address_invalid(instruction: KeyInstruction) -> bool
     ensures { λ r. ⌜ r ≡ addressInvalid instruction ⌝ }
 {
     match instruction {
@@ -61,7 +62,7 @@ pub fn address_invalid(instruction: KeyInstruction) -> bool
 }
 
 // ISK or SSK with any of bits 28-31 of R2 on.
-pub fn unspecified(instruction: KeyInstruction) -> bool
+pub(crate) fn unspecified(instruction: KeyInstruction) -> bool
     ensures { λ r. ⌜ r ≡ isUnspecified instruction ⌝ }
 {
     match instruction {
@@ -75,7 +76,7 @@ pub fn unspecified(instruction: KeyInstruction) -> bool
 }
 
 // What an instruction does with the keys of its block.
-pub fn operation(instruction: KeyInstruction) -> KeyOperation
+pub(crate) fn operation(instruction: KeyInstruction) -> KeyOperation
     ensures { λ r. ⌜ r ≡ operationOf instruction ⌝ }
 {
     match instruction {
@@ -86,4 +87,11 @@ pub fn operation(instruction: KeyInstruction) -> KeyOperation
         KeyInstruction::Sske { r1, r2: _ } => KeyOperation::Set { r1 },
         KeyInstruction::Rrbe { r2: _ } => KeyOperation::Reset,
     }
+}
+
+// It works on both keys of the block.
+pub(crate) fn two_keys(settings: Settings, instruction: KeyInstruction) -> bool
+    ensures { λ r. ⌜ r ≡ twoKeys settings instruction ⌝ }
+{
+    extended(instruction) & !settings.four_k
 }

@@ -2,3 +2,9 @@
 pub mod Written
 pub mod Verdicts
 pub mod SmallFacts
+pub mod Prefixing
+pub mod Units
+pub mod KeyBytes
+pub mod Plans
+pub mod Requests
+pub mod Accesses

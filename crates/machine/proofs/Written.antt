@@ -41,3 +41,20 @@ last-write xs place value (suc n) u = go (ℕ-discrete (place n) u) (last-write 
     go (yes e) l = last n (omega arith) e (here e)
     go (no e) (none f g) = none (below-suc (λ i. place i ≢ u) n f e) (there e ∙ g)
     go (no e) (last i h q g) = last i (omega arith) q (λ k. there e ∙ g k)
+
+-- an element that no write reaches is as before
+pub written-elsewhere : (xs : List ℕ) (place value : ℕ → ℕ) (n u : ℕ) → ((i : ℕ) → i < n → place i ≢ u) → getD (written xs place value n) u 0 ≡ getD xs u 0
+written-elsewhere xs place value n u apart = go (last-write xs place value n u)
+  where
+    go : Last xs place value n u → getD (written xs place value n) u 0 ≡ getD xs u 0
+    go (none f g) = g
+    go (last i h q g) = absurd (apart i h q)
+
+-- an element that is written holds value i, where every write to place i writes value i
+pub written-there : (xs : List ℕ) (place value : ℕ → ℕ) (n i : ℕ) → i < n → place i < length xs → ((j : ℕ) → j < n → place j ≡ place i → value j ≡ value i)
+    → getD (written xs place value n) (place i) 0 ≡ value i
+written-there xs place value n i h inside same = go (last-write xs place value n (place i))
+  where
+    go : Last xs place value n (place i) → getD (written xs place value n) (place i) 0 ≡ value i
+    go (none f g) = absurd (f i h refl)
+    go (last j k q g) = g inside ∙ same j k q

@@ -1,0 +1,171 @@
+-- Laws of every request: the answer is the verdict of the table, with any number but 0 nothing changes, lengths stay, a request reads and
+-- changes no record but its own processor's. The proofs go by the verdict and, where it is clear, by the kind of request.
+-- Assumes nothing.
+use Prim.Native.Nat.{ℕ, _<_, _≤_}
+use mathlib.Core.Path.{_≡_, refl, sym, ap, subst, _∙_}
+use mathlib.Core.Bool.{Bool, true, false, cond, not}
+use mathlib.Core.Logic.{_≢_, _↔_, _⊎_, inl, inr}
+use mathlib.Core.List.{List}
+use native.Mathlib.Decide.{decLt}
+use native.Mathlib.Omega.{arith}
+use lib.ListN.{length, getD, set, length-set}
+use lib.Seq.{set-out, getD-set-same, getD-set-other}
+use borrow.Author.Tests.{le-ltb}
+use Rattle.machine.specs.declared.Settings.{Settings}
+use Rattle.machine.specs.declared.Processor.{Processor}
+use Rattle.machine.specs.declared.AccessKind.{AccessKind}
+use Rattle.machine.specs.declared.AccessKind.the-variants.{Fetch, Store}
+use Rattle.machine.specs.declared.KeyOperation.{KeyOperation}
+use Rattle.machine.specs.declared.KeyOperation.the-variants.{Insert, Set, Reset}
+use Rattle.machine.specs.declared.Request.{Request}
+use Rattle.machine.specs.declared.Request.the-variants.{Access, Key, Prefix}
+use Rattle.machine.specs.declared.Reason.{Reason}
+use Rattle.machine.specs.declared.Reason.the-variants.{Configuration, Record, Operand, Operation, Privileged, SpecialOperation, Specification, Addressing, AbsoluteAddress, Protection}
+use Rattle.machine.specs.declared.Answer.{Answer}
+use Rattle.machine.specs.declared.Answer.the-variants.{Completed, Refused}
+use Rattle.machine.specs.declared.Verdict.{Verdict}
+use Rattle.machine.specs.declared.Verdict.the-variants.{Clear, Stop}
+use Rattle.machine.specs.Numbers.{own, lengthsValid}
+use Rattle.machine.specs.Answers.{number, numberOf, line, firstOf, firstLine}
+use Rattle.machine.specs.KeyInstructions.{operation, keyCount, keysLeft}
+use Rattle.machine.specs.Table.{protection, plan, verdict}
+use Rattle.machine.specs.Step.{Outcome, storageLeft, bufferLeft, keysRecorded, completed, performed, step}
+use Rattle.machine.proofs.Written.{length-written}
+use Rattle.machine.proofs.Verdicts.{not-clear, first-clear}
+
+-- every refusal has a number that is not 0
+pub refusal-number : (reason : Reason) → number reason ≢ 0
+refusal-number Configuration = omega arith
+refusal-number Record = omega arith
+refusal-number Operand = omega arith
+refusal-number Operation = omega arith
+refusal-number Privileged = omega arith
+refusal-number SpecialOperation = omega arith
+refusal-number Specification = omega arith
+refusal-number Addressing = omega arith
+refusal-number AbsoluteAddress = omega arith
+refusal-number Protection = omega arith
+
+length-keys-left : (keys : List ℕ) (u : ℕ) (two : Bool) (o : KeyOperation) → length (keysLeft keys u two o) ≡ length keys
+unfolding keysLeft
+length-keys-left keys u two (Insert r1) = refl
+length-keys-left keys u two (Set r1) = length-written keys _ _ (keyCount two)
+length-keys-left keys u two Reset = length-written keys _ _ (keyCount two)
+
+-- two outcomes are the same but for the records of other processors than n
+abbrev pub Alike : ℕ → Outcome → Outcome → Type 0
+Alike n a b =
+    (a .answer ≡ b .answer) × (a .storage ≡ b .storage) × (a .keys ≡ b .keys) × (a .buffer ≡ b .buffer) × (own (a .processors) n ≡ own (b .processors) n)
+
+module _ (s : Settings) (storage keys : List ℕ) (ps : List Processor) (n : ℕ) (r : Request) (buffer : List ℕ) where
+  -- what the request leaves
+  abbrev after : Outcome
+  after = step s storage keys ps n r buffer
+
+  -- the verdict of the table on the request
+  abbrev table : Verdict
+  table = verdict s (length storage) keys n (own ps n) r (length buffer)
+
+  -- what is left where nothing changes
+  abbrev unchanged : Answer → Outcome
+  unchanged answer = record { answer = answer; storage = storage; keys = keys; processors = ps; buffer = buffer }
+
+  abbrev SameLengths : Outcome → Type 0
+  SameLengths o =
+      (length (o .storage) ≡ length storage) × (length (o .keys) ≡ length keys) × (length (o .processors) ≡ length ps) × (length (o .buffer) ≡ length buffer)
+
+  -- what holds of a refusal by the verdict, and of the completed request where the verdict is clear, holds of the step
+  pub by-verdict : (P : Outcome → Type 0)
+      → ((reason : Reason) (place : ℕ) → table ≡ Stop reason place → P (unchanged (Refused reason place)))
+      → (table ≡ Clear → P (completed s storage keys ps n (own ps n) r buffer))
+      → P after
+  unfolding step performed
+  by-verdict P refused done = go table refl
+    where
+      go : (v : Verdict) → table ≡ v → P (performed v s storage keys ps n r buffer)
+      go Clear e = done e
+      go (Stop reason place) e = refused reason place e
+
+  -- a request that completes has the number 0
+  completed-number : (r : Request) → numberOf (completed s storage keys ps n (own ps n) r buffer .answer) ≡ 0
+  unfolding completed
+  completed-number (Access kind start count) = refl
+  completed-number (Key i) = refl
+  completed-number (Prefix i) = refl
+
+  -- with any number but 0 nothing lent and neither record changes
+  pub refused-changes-nothing : numberOf (after .answer) ≢ 0 → after ≡ unchanged (after .answer)
+  refused-changes-nothing =
+      by-verdict (λ o. numberOf (o .answer) ≢ 0 → o ≡ unchanged (o .answer)) (λ reason place e h. refl) (λ e h. absurd (h (completed-number r)))
+
+  -- the number is 0 exactly when no line of the table applies
+  pub completed-by-table : (numberOf (after .answer) ≡ 0) ↔ (table ≡ Clear)
+  completed-by-table =
+      by-verdict (λ o. (numberOf (o .answer) ≡ 0) ↔ (table ≡ Clear))
+      (λ reason place e. (λ h. absurd (refusal-number reason h), λ c. absurd (not-clear e c))) (λ e. (λ h. e, λ c. completed-number r))
+
+  -- a request is refused with the reason and the place of the first line that applies
+  pub refused-by-table : (reason : Reason) (place : ℕ) → (after .answer ≡ Refused reason place) ↔ (table ≡ Stop reason place)
+  refused-by-table reason place =
+      by-verdict (λ o. (o .answer ≡ Refused reason place) ↔ (table ≡ Stop reason place)) (λ q l e. ((λ h. cc), (λ h. cc)))
+      (λ e. (λ h. absurd (refusal-number reason (sym (ap numberOf h) ∙ completed-number r)), λ h. absurd (not-clear h e)))
+
+  -- what a completed request leaves, and that its plan is clear
+  pub completed-step : numberOf (after .answer) ≡ 0 → after ≡ completed s storage keys ps n (own ps n) r buffer
+  completed-step =
+      by-verdict (λ o. numberOf (o .answer) ≡ 0 → o ≡ completed s storage keys ps n (own ps n) r buffer)
+      (λ reason place e h. absurd (refusal-number reason h)) (λ e h. refl)
+
+  pub completed-plan : numberOf (after .answer) ≡ 0 → plan s (length storage) (length keys) n (own ps n) r (length buffer) ≡ Clear
+  unfolding verdict
+  completed-plan h = first-clear _ _ (completed-by-table .0 h) .0
+
+  -- the lengths of storage, key array, pair of records and buffer never change
+  pub lengths-stay : SameLengths after
+  unfolding completed storageLeft bufferLeft keysRecorded
+  lengths-stay = by-verdict SameLengths (λ reason place e. (refl, refl, refl, refl)) (λ e. go r)
+    where
+      go : (r : Request) → SameLengths (completed s storage keys ps n (own ps n) r buffer)
+      go (Access Fetch start count) = (refl, length-written keys _ _ count, refl, length-written buffer _ _ count)
+      go (Access Store start count) = (length-written storage _ _ count, length-written keys _ _ count, refl, refl)
+      go (Key i) = (refl, length-keys-left keys _ _ (operation i), length-set ps n _, refl)
+      go (Prefix i) = (refl, refl, length-set ps n _, refl)
+
+  -- no record but the processor's own changes
+  pub other-record-stays : (m : ℕ) → m ≢ n → own (after .processors) m ≡ own ps m
+  unfolding completed
+  other-record-stays m d = by-verdict (λ o. own (o .processors) m ≡ own ps m) (λ reason place e. refl) (λ e. go r)
+    where
+      go : (r : Request) → own (completed s storage keys ps n (own ps n) r buffer .processors) m ≡ own ps m
+      go (Access kind start count) = refl
+      go (Key i) = getD-set-other ps n m _ _ d
+      go (Prefix i) = getD-set-other ps n m _ _ d
+
+  -- what a request answers and leaves depends on no record but its processor's own
+  pub own-record-only : (qs : List Processor) → length ps ≡ length qs → own ps n ≡ own qs n → Alike n after (step s storage keys qs n r buffer)
+  unfolding step performed completed
+  own-record-only qs l e = rw e (go (verdict s (length storage) keys n (own qs n) r (length buffer)))
+    where
+      replaced : Dec (n < length ps) → (p : Processor) → own (set ps n p) n ≡ own (set qs n p) n
+      replaced (yes h) p = rw (getD-set-same ps n p _ h, getD-set-same qs n p _ (rw l at h))
+      replaced (no h) p = rw (set-out ps n p (omega arith), set-out qs n p (omega arith), e)
+
+      done : (p : Processor) (r : Request) → Alike n (completed s storage keys ps n p r buffer) (completed s storage keys qs n p r buffer)
+      done p (Access kind start count) = (refl, refl, refl, refl, e)
+      done p (Key i) = (refl, refl, refl, refl, replaced (decLt n (length ps)) _)
+      done p (Prefix i) = (refl, refl, refl, refl, replaced (decLt n (length ps)) _)
+
+      go : (v : Verdict) → Alike n (performed v s storage keys ps n r buffer) (performed v s storage keys qs n r buffer)
+      go (Stop reason place) = (refl, refl, refl, refl, e)
+      go Clear = subst (λ p. Alike n (completed s storage keys ps n p r buffer) (completed s storage keys qs n (own qs n) r buffer)) (sym e) (done (own qs n) r)
+
+  -- a number that is not 0 or 1 is refused, no record is looked at and nothing changes
+  pub other-number-refused : 2 ≤ n → after ≡ unchanged (cond (lengthsValid s (length storage) (length keys)) (Refused Record 0) (Refused Configuration 0))
+  unfolding step performed verdict plan line firstLine firstOf
+  other-number-refused h = rw (le-ltb n 2 h) (go (lengthsValid s (length storage) (length keys)))
+    where
+      go : (b : Bool)
+          → performed (firstOf (firstOf (line Configuration (not b)) (Stop Record 0)) (protection s keys (own ps n) r)) s storage keys ps n r buffer
+          ≡ unchanged (cond b (Refused Record 0) (Refused Configuration 0))
+      go true = refl
+      go false = refl

@@ -32,7 +32,8 @@ whole-block (Sske r1 r2) e = omega arith
 whole-block (Rrbe r2) e = omega arith
 
 -- a whole 4K block inside storage has a second unit of 2K, which is inside too
-second-unit : (address storageLength : ℕ) → storageLength % 4096 ≡ 0 → address < storageLength → address % 4096 ≡ 0 → address / 2048 + 1 < storageLength / 2048
+second-unit : (address storageLength : ℕ) → storageLength % 4096 ≡ 0 → address < storageLength → address % 4096 ≡ 0
+    → address / 2048 + 1 < storageLength / 2048
 second-unit address storageLength m h w = omega arith
 
 pub keys-inside : (s : Settings) (storageLength keyLength n : ℕ) (p : Processor) (i : KeyInstruction) (bufferLength : ℕ)

@@ -22,7 +22,8 @@ use Rattle.machine.specs.Step.{outcome, firstUnit, withCode, completed, perform
 use Rattle.machine.proofs.Verdicts.{first-none}
 
 key-step : (s : Settings) (storage keys : List ℕ) (ps : List Processor) (n : ℕ) (i : KeyInstruction) (buffer : List ℕ)
-    → step s storage keys ps n (Key i) buffer ≡ performed (plan s (length storage) (length keys) n (own ps n) (Key i) 0) s storage keys ps n (Key i) buffer
+    → step s storage keys ps n (Key i) buffer
+    ≡ performed (plan s (length storage) (length keys) n (own ps n) (Key i) 0) s storage keys ps n (Key i) buffer
 unfolding step verdict protection plan
 key-step s storage keys ps n i buffer = rw first-none
 
@@ -32,7 +33,8 @@ module _ (s : Settings) (keys : List ℕ) (ps : List Processor) (n : ℕ) (i : K
   by-verdict : step s storage keys ps n (Key i) buffer ≡ performed v s storage keys ps n (Key i) buffer
   by-verdict = rw (verdict-given, record-given, ← sized) (key-step s storage keys ps n i buffer)
 
-  pub refused-step : {reason : Reason} {place : ℕ} → v ≡ Stop reason place → outcome (record { answer = Refused reason place; processors = ps }) storage keys buffer ≡ step s storage keys ps n (Key i) buffer
+  pub refused-step : {reason : Reason} {place : ℕ} → v ≡ Stop reason place
+      → outcome (record { answer = Refused reason place; processors = ps }) storage keys buffer ≡ step s storage keys ps n (Key i) buffer
   unfolding performed
   refused-step stop = rw (by-verdict, stop)
 

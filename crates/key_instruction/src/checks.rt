@@ -18,7 +18,9 @@ ghost use Rattle.machine.specs.declared.Request.the-variants.{Key};
 
 // Lines 66 and 1: the address of RRB, and the extensions.
 fn operand_lines(settings: Settings, instruction: KeyInstruction) -> Verdict
-    ensures { λ r. ⌜ r ≡ firstOf (line Reason.Operand (operandInvalid (Key instruction) 0)) (line Reason.Operation (notInstalled settings (Key instruction))) ⌝ }
+    ensures { λ r. ⌜ r
+        ≡ firstOf (line Reason.Operand (operandInvalid (Key instruction) 0))
+        (line Reason.Operation (notInstalled settings (Key instruction))) ⌝ }
 {
     let invalid = address_invalid(instruction);
     let extended = extended(instruction);
@@ -30,7 +32,10 @@ fn operand_lines(settings: Settings, instruction: KeyInstruction) -> Verdict
 
 // Lines 2, 19 and 6: the state, CR0 bit 7, and bits 28-31 of R2.
 fn state_lines(settings: Settings, p: Processor, instruction: KeyInstruction) -> Verdict
-    ensures { λ r. ⌜ r ≡ firstOf (line Reason.Privileged (notPrivileged p (Key instruction))) (firstOf (line Reason.SpecialOperation (notControlled settings p (Key instruction))) (line Reason.Specification (notSpecified (Key instruction)))) ⌝ }
+    ensures { λ r. ⌜ r
+        ≡ firstOf (line Reason.Privileged (notPrivileged p (Key instruction)))
+        (firstOf (line Reason.SpecialOperation (notControlled settings p (Key instruction)))
+        (line Reason.Specification (notSpecified (Key instruction)))) ⌝ }
 {
     let extended = extended(instruction);
     let unspecified = unspecified(instruction);
@@ -47,7 +52,9 @@ fn state_lines(settings: Settings, p: Processor, instruction: KeyInstruction) ->
 
 // Lines 5 and 67: the real address of the block, and its absolute address.
 fn address_lines(storage_length: usize, p: Processor, instruction: KeyInstruction) -> Verdict
-    ensures { λ r. ⌜ r ≡ firstOf (addressing «storage_length» (Key instruction)) (absoluteAddressing «storage_length» p (Key instruction)) ⌝ }
+    ensures { λ r. ⌜ r
+        ≡ firstOf (addressing «storage_length» (Key instruction))
+        (absoluteAddressing «storage_length» p (Key instruction)) ⌝ }
 {
     let block = designated(instruction);
     let absolute = prefixing::absolute(p.prefix, block) as usize;

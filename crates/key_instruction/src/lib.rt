@@ -44,7 +44,9 @@ fn perform(
     requires { ⌜ Inside (length (now keys)) u two × (number < 2) ⌝ }
     ensures { λ r. ⌜ r .answer ≡ Completed (wordGiven (now (keys .entry)) u two operation) ⌝ }
     ensures { λ r. ⌜ now (keys .exit) ≡ keysLeft (now (keys .entry)) u two operation ⌝ }
-    ensures { λ r. ⌜ r .processors ≡ set processors number (withCode (recordOf processors number) (codeLeft (now (keys .entry)) u operation (recordOf processors number .code))) ⌝ }
+    ensures { λ r. ⌜ r .processors
+        ≡ set processors number
+        (withCode (recordOf processors number) (codeLeft (now (keys .entry)) u operation (recordOf processors number .code))) ⌝ }
 {
     match operation {
         KeyOperation::Insert { r1 } => {
@@ -72,7 +74,8 @@ fn perform(
     }
 }
 
-// A key instruction for one processor, over storage of this length. Storage and buffer are not lent to it: whatever they hold is left.
+// A key instruction for one processor. It takes no buffer, and of storage the length alone: for every storage of this length and every
+// buffer the outcome is the step's, with the two as they were.
 pub fn key_instruction(
     settings: Settings,
     storage_length: usize,
@@ -81,7 +84,8 @@ pub fn key_instruction(
     number: usize,
     instruction: KeyInstruction,
 ) -> Reply
-    ensures { λ r. ⌜ ((storage buffer : List ℕ) → length storage ≡ «storage_length» → outcome r storage (now (keys .exit)) buffer ≡ step settings storage (now (keys .entry)) processors number (Key instruction) buffer) ⌝ }
+    ensures { λ r. ⌜ ((storage buffer : List ℕ) → length storage ≡ «storage_length»
+        → outcome r storage (now (keys .exit)) buffer ≡ step settings storage (now (keys .entry)) processors number (Key instruction) buffer) ⌝ }
 {
     let p = own(processors, number);
     let verdict = checks::verdict(settings, storage_length, keys.len(), number, p, instruction);

@@ -5,9 +5,10 @@ use storage_key::joined;
 use storage_key::key_in;
 use storage_key::key_of;
 ghost use mathlib.Core.Path.{_≡_};
-ghost use lib.ListN.{length};
+ghost use lib.ListN.{length, getD};
 ghost use Rattle.machine.specs.declared.KeyOperation.the-variants.{Insert, Set, Reset};
-ghost use Rattle.machine.specs.KeyInstructions.{wordGiven, keysLeft, codeLeft};
+ghost use Rattle.machine.specs.KeyInstructions.{wordGiven, keysLeft};
+ghost use Rattle.machine.specs.Key.{codeOf};
 ghost use Rattle.key_instruction.specs.Units.{Inside};
 
 // The word of R1 with its bits 24-30 replaced by the key, and bit 31 zero.
@@ -38,7 +39,7 @@ pub(crate) fn set(keys: &mut [u8], u: usize, two: bool, r1: u32)
 // The reference bit becomes zero; the condition code is the low-order key's.
 pub(crate) fn reset(keys: &mut [u8], u: usize, two: bool) -> u8
     requires { ⌜ Inside (length (now keys)) u two ⌝ }
-    ensures { λ r. ⌜ (now (keys .exit) ≡ keysLeft (now (keys .entry)) u two Reset) × (r ≡ codeLeft (now (keys .entry)) u Reset 0) ⌝ }
+    ensures { λ r. ⌜ (now (keys .exit) ≡ keysLeft (now (keys .entry)) u two Reset) × (r ≡ codeOf (getD (now (keys .entry)) u 0)) ⌝ }
 {
     let low = keys[u];
     let code = code_of(low);

@@ -40,7 +40,9 @@ pub fn configuration(
     number: usize,
     p: Processor,
 ) -> Verdict
-    ensures { λ r. ⌜ r ≡ firstOf (line Reason.Configuration (not (lengthsValid settings «storage_length» «key_length»))) (line Reason.Record (not (ltb number 2 && recordValid «storage_length» p))) ⌝ }
+    ensures { λ r. ⌜ r
+        ≡ firstOf (line Reason.Configuration (not (lengthsValid settings «storage_length» «key_length»)))
+        (line Reason.Record (not (ltb number 2 && recordValid «storage_length» p))) ⌝ }
 {
     let lengths = lengths_valid(settings, storage_length, key_length);
     let record = record_valid(storage_length, p);

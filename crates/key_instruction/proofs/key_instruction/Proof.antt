@@ -25,7 +25,10 @@ operation-requires : tie.Need-operation-requires
 operation-requires c κs = search needs
 
 perform-requires : tie.Need-perform-requires
-perform-requires c κs = rw (c .before .before .before .first-unit .ensures, c .before .before .two-keys .ensures) (keys-inside _ _ _ _ _ _ 0 (sym (c .before .before .before .before .before .before .verdict .ensures) ∙ c .before .before .before .before .enum-told .given .1))
+perform-requires c κs =
+    rw (c .before .before .before .first-unit .ensures, c .before .before .two-keys .ensures)
+    (keys-inside _ _ _ _ _ _ 0
+    (sym (c .before .before .before .before .before .before .verdict .ensures) ∙ c .before .before .before .before .enum-told .given .1))
 
 enum-known-verdict : tie.Need-enum-known-verdict
 enum-known-verdict c = search needs
@@ -34,10 +37,26 @@ same-length : tie.Need-same-length
 same-length c = search needs
 
 returns : tie.Need-returns
-returns c = λ storage buffer sized. completed-step _ _ _ _ _ (c .before .before .before .before .before .before .before .before .before .before .own .ensures) (c .before .before .before .before .before .before .before .before .before .verdict .ensures) storage buffer sized (c .before .before .before .before .before .before .before .enum-told .given .1) (c .before .before .before .before .before .before .first-unit .ensures) (c .before .before .before .before .before .two-keys .ensures) (c .before .before .before .before .operation .ensures) (c .before .before .perform .ensures .0) (c .before .before .perform .ensures .1 .0) (c .before .before .perform .ensures .1 .1)
+returns c = λ storage buffer sized.
+    completed-step _ _ _ _ _
+    (c .before .before .before .before .before .before .before .before .before .before .own .ensures)
+    (c .before .before .before .before .before .before .before .before .before .verdict .ensures)
+    storage buffer sized
+    (c .before .before .before .before .before .before .before .enum-told .given .1)
+    (c .before .before .before .before .before .before .first-unit .ensures)
+    (c .before .before .before .before .before .two-keys .ensures)
+    (c .before .before .before .before .operation .ensures)
+    (c .before .before .perform .ensures .0)
+    (c .before .before .perform .ensures .1 .0)
+    (c .before .before .perform .ensures .1 .1)
 
 returns-2 : tie.Need-returns-2
-returns-2 c = λ storage buffer sized. refused-step _ _ _ _ _ (c .before .before .before .before .own .ensures) (c .before .before .before .verdict .ensures) storage buffer sized (c .before .verdict2 .given .1)
+returns-2 c = λ storage buffer sized.
+    refused-step _ _ _ _ _
+    (c .before .before .before .before .own .ensures)
+    (c .before .before .before .verdict .ensures)
+    storage buffer sized
+    (c .before .verdict2 .given .1)
 
 pub key-instruction-spec : {M : Type 1} → statement M
 key-instruction-spec =

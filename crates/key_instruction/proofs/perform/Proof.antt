@@ -42,14 +42,17 @@ same-length-2 c = search needs
 
 returns-2 : tie.Need-returns-2
 unfolding wordGiven codeLeft
-returns-2 c = rw (c .before .before .before .before .before .operation2 .given .1) (refl, (c .before .before .set .ensures, sym (set-getD _ _ _)))
+returns-2 c =
+    rw (c .before .before .before .before .before .operation2 .given .1) (refl, (c .before .before .set .ensures, sym (set-getD _ _ _)))
 
 same-length-3 : tie.Need-same-length-3
 same-length-3 c = search needs
 
 returns-3 : tie.Need-returns-3
 unfolding wordGiven codeLeft
-returns-3 c = rw (c .before .before .before .before .before .enum-told .given .1) (refl, (c .before .before .before .reset .ensures .0, rw (c .before .before .before .reset .ensures .1)))
+returns-3 c =
+    rw (c .before .before .before .before .before .enum-told .given .1)
+    (refl, (c .before .before .before .reset .ensures .0, rw (c .before .before .before .reset .ensures .1)))
 
 pub perform-spec : {M : Type 1} → statement M
 perform-spec =

@@ -27,7 +27,14 @@ first-of-requires c κs = search needs
 
 returns : tie.Need-returns
 unfolding addressing absoluteAddressing
-returns c = rw (c .first-of .ensures, c .before .refuse2 .ensures, c .before .before .refuse .ensures, c .before .before .before .absolute .ensures, c .before .before .before .before .designated .ensures)
+returns c =
+    rw (
+      c .first-of .ensures,
+      c .before .refuse2 .ensures,
+      c .before .before .refuse .ensures,
+      c .before .before .before .absolute .ensures,
+      c .before .before .before .before .designated .ensures,
+    )
 
 pub address-lines-spec : {M : Type 1} → statement M
 address-lines-spec =

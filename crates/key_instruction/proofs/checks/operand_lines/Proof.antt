@@ -20,7 +20,14 @@ first-of-requires : tie.Need-first-of-requires
 first-of-requires c κs = search needs
 
 returns : tie.Need-returns
-returns c = rw (c .first-of .ensures, c .before .refuse2 .ensures, c .before .before .before .refuse .ensures, c .before .before .before .before .extended .ensures, c .before .before .before .before .before .address-invalid .ensures)
+returns c =
+    rw (
+      c .first-of .ensures,
+      c .before .refuse2 .ensures,
+      c .before .before .before .refuse .ensures,
+      c .before .before .before .before .extended .ensures,
+      c .before .before .before .before .before .address-invalid .ensures,
+    )
 
 pub operand-lines-spec : {M : Type 1} → statement M
 operand-lines-spec =

@@ -26,7 +26,16 @@ first-of-requires-2 : tie.Need-first-of-requires-2
 first-of-requires-2 c κs = search needs
 
 returns : tie.Need-returns
-returns c = rw (c .first-of2 .ensures, c .before .first-of .ensures, c .before .before .refuse3 .ensures, c .before .before .before .refuse2 .ensures, c .before .before .before .before .refuse .ensures, c .before .before .before .before .before .before .before .unspecified .ensures, c .before .before .before .before .before .before .before .before .extended .ensures)
+returns c =
+    rw (
+      c .first-of2 .ensures,
+      c .before .first-of .ensures,
+      c .before .before .refuse3 .ensures,
+      c .before .before .before .refuse2 .ensures,
+      c .before .before .before .before .refuse .ensures,
+      c .before .before .before .before .before .before .before .unspecified .ensures,
+      c .before .before .before .before .before .before .before .before .extended .ensures,
+    )
 
 pub state-lines-spec : {M : Type 1} → statement M
 state-lines-spec =

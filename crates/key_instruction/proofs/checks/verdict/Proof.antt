@@ -28,7 +28,16 @@ first-of-requires-3 c κs = search needs
 
 returns : tie.Need-returns
 unfolding plan
-returns c = rw (c .first-of3 .ensures, c .before .first-of2 .ensures, c .before .before .first-of .ensures, c .before .before .before .address-lines .ensures, c .before .before .before .before .state-lines .ensures, c .before .before .before .before .before .operand-lines .ensures, c .before .before .before .before .before .before .configuration .ensures) (nine-lines _ _ _ _ _ _ _ _ _)
+returns c =
+    rw (
+      c .first-of3 .ensures,
+      c .before .first-of2 .ensures,
+      c .before .before .first-of .ensures,
+      c .before .before .before .address-lines .ensures,
+      c .before .before .before .before .state-lines .ensures,
+      c .before .before .before .before .before .operand-lines .ensures,
+      c .before .before .before .before .before .before .configuration .ensures,
+    ) (nine-lines _ _ _ _ _ _ _ _ _)
 
 pub verdict-spec : {M : Type 1} → statement M
 verdict-spec =

@@ -1,4 +1,5 @@
 -- `insert` gives the rules' word: by whether it is one key or two. Assumes nothing.
+use native.Mathlib.Omega.{arith}
 use Rattle.machine.specs.KeyInstructions.{wordGiven}
 use borrow.Author.Needs.{needs}
 use Rattle.key_instruction.proofs.operations.insert.Statement.{statement}
@@ -14,7 +15,7 @@ add-joined : tie.Need-add-joined
 add-joined c = search needs
 
 shared-slice-read-joined-2 : tie.Need-shared-slice-read-joined-2
-shared-slice-read-joined-2 c = c .before .before .before .before .pre .1 (c .before .before .if1 .taken)
+shared-slice-read-joined-2 c = omega (arith, c .before .before .before .before .pre .1 (c .before .before .if1 .taken))
 
 joined-requires : tie.Need-joined-requires
 joined-requires c κs = search needs

@@ -1,7 +1,7 @@
 -- `reset` leaves the rules' keys and gives the rules' condition code: by whether it is one key or two. Assumes nothing.
 use Rattle.machine.specs.Key.{afterReset}
 use lib.ListN.{length-set}
-use Rattle.machine.specs.KeyInstructions.{keysLeft, codeLeft}
+use Rattle.machine.specs.KeyInstructions.{keysLeft}
 use Rattle.key_instruction.proofs.Keys.{one-key, two-keys}
 use borrow.Author.Needs.{needs}
 use Rattle.key_instruction.proofs.operations.reset.Statement.{statement}
@@ -38,14 +38,18 @@ same-length : tie.Need-same-length
 same-length c = search needs
 
 returns : tie.Need-returns
-unfolding keysLeft codeLeft
-returns c = (rw (c .before .before .if1 .taken, c .after-reset2 .ensures, c .before .before .before .after-reset .ensures) (two-keys afterReset _ _), c .before .before .before .before .code-of .ensures)
+unfolding keysLeft
+returns c = (
+  rw (c .before .before .if1 .taken, c .after-reset2 .ensures, c .before .before .before .after-reset .ensures)
+      (two-keys afterReset _ _),
+  c .before .before .before .before .code-of .ensures,
+)
 
 same-length-2 : tie.Need-same-length-2
 same-length-2 c = search needs
 
 returns-2 : tie.Need-returns-2
-unfolding keysLeft codeLeft
+unfolding keysLeft
 returns-2 c = (rw (c .if1 .left, c .before .after-reset .ensures) (one-key afterReset _ _), c .before .before .code-of .ensures)
 
 pub reset-spec : {M : Type 1} → statement M

@@ -1,4 +1,5 @@
 -- `set` leaves the rules' keys: by whether it is one key or two. Assumes nothing.
+use native.Mathlib.Omega.{arith}
 use Rattle.machine.specs.Key.{keyOf}
 use lib.ListN.{length-set}
 use Rattle.machine.specs.KeyInstructions.{keysLeft}
@@ -17,7 +18,7 @@ add-keys : tie.Need-add-keys
 add-keys c = search needs
 
 slice-write-keys-2 : tie.Need-slice-write-keys-2
-slice-write-keys-2 c = simp length-set (c .before .before .before .pre .1 (c .if1 .taken))
+slice-write-keys-2 c = simp length-set (omega (arith, c .before .before .before .pre .1 (c .if1 .taken)))
 
 same-length : tie.Need-same-length
 same-length c = search needs

@@ -19,7 +19,14 @@ first-of-requires : tie.Need-first-of-requires
 first-of-requires c κs = search needs
 
 returns : tie.Need-returns
-returns c = rw (c .first-of .ensures, c .before .refuse2 .ensures, c .before .before .refuse .ensures, c .before .before .before .record-valid .ensures, c .before .before .before .before .lengths-valid .ensures)
+returns c =
+    rw (
+      c .first-of .ensures,
+      c .before .refuse2 .ensures,
+      c .before .before .refuse .ensures,
+      c .before .before .before .record-valid .ensures,
+      c .before .before .before .before .lengths-valid .ensures,
+    )
 
 pub configuration-spec : {M : Type 1} → statement M
 configuration-spec =

@@ -50,6 +50,16 @@ pub first-of-clear : (v w : Verdict) → v ≡ Clear → firstOf v w ≡ w
 unfolding firstOf
 first-of-clear v w e = rw e
 
+pub first-none : (v : Verdict) → firstOf v Clear ≡ v
+unfolding firstOf
+first-none Clear = refl
+first-none (Stop r p) = refl
+
+pub first-assoc : (u v w : Verdict) → firstOf (firstOf u v) w ≡ firstOf u (firstOf v w)
+unfolding firstOf
+first-assoc Clear v w = refl
+first-assoc (Stop r p) v w = refl
+
 -- a verdict of bytes is clear exactly where the test holds of none
 pub bytes-clear : (r : Reason) (test : ℕ → Bool) (n : ℕ) → firstByte r test n ≡ Clear → (i : ℕ) → i < n → test i ≡ false
 unfolding firstByte line

@@ -1,0 +1,12 @@
+-- The lines in groups, as the code takes them, are the lines one after the other. Assumes nothing.
+use mathlib.Core.Path.{_≡_}
+use mathlib.Core.List.{[], _∷_}
+use Rattle.machine.specs.declared.Verdict.{Verdict}
+use Rattle.machine.specs.Answers.{firstOf, firstLine}
+use Rattle.machine.proofs.Verdicts.{first-none, first-assoc}
+
+pub nine-lines : (a b c d e f g h i : Verdict)
+    → firstOf (firstOf a b) (firstOf (firstOf c d) (firstOf (firstOf e (firstOf f g)) (firstOf h i)))
+    ≡ firstLine (a ∷ b ∷ c ∷ d ∷ e ∷ f ∷ g ∷ h ∷ i ∷ [])
+unfolding firstLine
+nine-lines a b c d e f g h i = simp (first-assoc, first-none)

@@ -1,0 +1,51 @@
+use borrow.Author.Needs.{needs}
+use Rattle.key_instruction.proofs.checks.state_lines.Statement.{statement}
+use Rattle.key_instruction.proofs.checks.state_lines.Tie as tie
+
+-- `state_lines` is lines 2, 19 and 6 of the table: by what each call gives. Assumes nothing.
+
+extended-requires : tie.Need-extended-requires
+extended-requires c κs = search needs
+
+unspecified-requires : tie.Need-unspecified-requires
+unspecified-requires c κs = search needs
+
+refuse-requires : tie.Need-refuse-requires
+refuse-requires c κs = search needs
+
+refuse-requires-2 : tie.Need-refuse-requires-2
+refuse-requires-2 c κs = search needs
+
+refuse-requires-3 : tie.Need-refuse-requires-3
+refuse-requires-3 c κs = search needs
+
+first-of-requires : tie.Need-first-of-requires
+first-of-requires c κs = search needs
+
+first-of-requires-2 : tie.Need-first-of-requires-2
+first-of-requires-2 c κs = search needs
+
+returns : tie.Need-returns
+returns c =
+    rw (
+      c .first-of2 .ensures,
+      c .before .first-of .ensures,
+      c .before .before .refuse3 .ensures,
+      c .before .before .before .refuse2 .ensures,
+      c .before .before .before .before .refuse .ensures,
+      c .before .before .before .before .before .before .before .unspecified .ensures,
+      c .before .before .before .before .before .before .before .before .extended .ensures,
+    )
+
+pub state-lines-spec : {M : Type 1} → statement M
+state-lines-spec =
+    tie.close
+    (tie.spec
+    extended-requires
+    unspecified-requires
+    refuse-requires
+    refuse-requires-2
+    refuse-requires-3
+    first-of-requires
+    first-of-requires-2
+    returns)

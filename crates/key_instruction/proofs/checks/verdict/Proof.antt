@@ -1,0 +1,53 @@
+-- `verdict` is the table's lines from 64 to 67: the groups, one after the other. Assumes nothing.
+use Rattle.machine.specs.Table.{plan}
+use Rattle.key_instruction.proofs.Lines.{nine-lines}
+use borrow.Author.Needs.{needs}
+use Rattle.key_instruction.proofs.checks.verdict.Statement.{statement}
+use Rattle.key_instruction.proofs.checks.verdict.Tie as tie
+
+configuration-requires : tie.Need-configuration-requires
+configuration-requires c κs = search needs
+
+operand-lines-requires : tie.Need-operand-lines-requires
+operand-lines-requires c κs = search needs
+
+state-lines-requires : tie.Need-state-lines-requires
+state-lines-requires c κs = search needs
+
+address-lines-requires : tie.Need-address-lines-requires
+address-lines-requires c κs = search needs
+
+first-of-requires : tie.Need-first-of-requires
+first-of-requires c κs = search needs
+
+first-of-requires-2 : tie.Need-first-of-requires-2
+first-of-requires-2 c κs = search needs
+
+first-of-requires-3 : tie.Need-first-of-requires-3
+first-of-requires-3 c κs = search needs
+
+returns : tie.Need-returns
+unfolding plan
+returns c =
+    rw (
+      c .first-of3 .ensures,
+      c .before .first-of2 .ensures,
+      c .before .before .first-of .ensures,
+      c .before .before .before .address-lines .ensures,
+      c .before .before .before .before .state-lines .ensures,
+      c .before .before .before .before .before .operand-lines .ensures,
+      c .before .before .before .before .before .before .configuration .ensures,
+    ) (nine-lines _ _ _ _ _ _ _ _ _)
+
+pub verdict-spec : {M : Type 1} → statement M
+verdict-spec =
+    tie.close
+    (tie.spec
+    configuration-requires
+    operand-lines-requires
+    state-lines-requires
+    address-lines-requires
+    first-of-requires
+    first-of-requires-2
+    first-of-requires-3
+    returns)

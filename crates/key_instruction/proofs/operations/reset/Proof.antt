@@ -1,0 +1,71 @@
+-- `reset` leaves the rules' keys and gives the rules' condition code: by whether it is one key or two. Assumes nothing.
+use Rattle.machine.specs.Key.{afterReset}
+use lib.ListN.{length-set}
+use Rattle.machine.specs.KeyInstructions.{keysLeft}
+use Rattle.key_instruction.proofs.Keys.{one-key, two-keys}
+use borrow.Author.Needs.{needs}
+use Rattle.key_instruction.proofs.operations.reset.Statement.{statement}
+use Rattle.key_instruction.proofs.operations.reset.Tie as tie
+
+slice-read-low : tie.Need-slice-read-low
+slice-read-low c = search needs
+
+code-of-requires : tie.Need-code-of-requires
+code-of-requires c κs = search needs
+
+after-reset-requires : tie.Need-after-reset-requires
+after-reset-requires c κs = search needs
+
+slice-write-keys : tie.Need-slice-write-keys
+slice-write-keys c = search needs
+
+add-after-reset : tie.Need-add-after-reset
+add-after-reset c = search needs
+
+slice-read-after-reset : tie.Need-slice-read-after-reset
+slice-read-after-reset c = simp length-set (c .before .before .before .before .before .before .pre .1 (c .before .if1 .taken))
+
+after-reset-requires-2 : tie.Need-after-reset-requires-2
+after-reset-requires-2 c κs = search needs
+
+add-keys : tie.Need-add-keys
+add-keys c = search needs
+
+slice-write-keys-2 : tie.Need-slice-write-keys-2
+slice-write-keys-2 c = simp length-set (c .before .before .before .before .before .before .before .pre .1 (c .before .before .if1 .taken))
+
+same-length : tie.Need-same-length
+same-length c = search needs
+
+returns : tie.Need-returns
+unfolding keysLeft
+returns c = (
+  rw (c .before .before .if1 .taken, c .after-reset2 .ensures, c .before .before .before .after-reset .ensures)
+      (two-keys afterReset _ _),
+  c .before .before .before .before .code-of .ensures,
+)
+
+same-length-2 : tie.Need-same-length-2
+same-length-2 c = search needs
+
+returns-2 : tie.Need-returns-2
+unfolding keysLeft
+returns-2 c = (rw (c .if1 .left, c .before .after-reset .ensures) (one-key afterReset _ _), c .before .before .code-of .ensures)
+
+pub reset-spec : {M : Type 1} → statement M
+reset-spec =
+    tie.close
+    (tie.spec
+    slice-read-low
+    code-of-requires
+    after-reset-requires
+    slice-write-keys
+    add-after-reset
+    slice-read-after-reset
+    after-reset-requires-2
+    add-keys
+    slice-write-keys-2
+    same-length
+    returns
+    same-length-2
+    returns-2)

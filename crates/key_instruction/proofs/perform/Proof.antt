@@ -1,0 +1,74 @@
+-- `perform` gives and leaves what the rules say: by the operation. Insert and set put the record back as it was. Assumes nothing.
+use mathlib.Core.Path.{refl, sym}
+use lib.Seq.{set-getD}
+use Rattle.machine.specs.KeyInstructions.{wordGiven, keysLeft, codeLeft}
+use borrow.Author.Needs.{needs}
+use Rattle.key_instruction.proofs.perform.Statement.{statement}
+use Rattle.key_instruction.proofs.perform.Tie as tie
+
+enum-known-operation : tie.Need-enum-known-operation
+enum-known-operation c = search needs
+
+insert-requires : tie.Need-insert-requires
+insert-requires c κs = search needs
+
+enum-known-operation-2 : tie.Need-enum-known-operation-2
+enum-known-operation-2 c = search needs
+
+set-requires : tie.Need-set-requires
+set-requires c κs = search needs
+
+enum-told : tie.Need-enum-told
+enum-told c = search needs
+
+reset-requires : tie.Need-reset-requires
+reset-requires c κs = search needs
+
+mul-next : tie.Need-mul-next
+mul-next c = search needs
+
+way-write-given-next : tie.Need-way-write-given-next
+way-write-given-next c = search needs
+
+same-length : tie.Need-same-length
+same-length c = search needs
+
+returns : tie.Need-returns
+unfolding keysLeft codeLeft
+returns c = rw (c .insert .ensures, c .before .before .before .operation .given .1) (refl, (refl, sym (set-getD _ _ _)))
+
+same-length-2 : tie.Need-same-length-2
+same-length-2 c = search needs
+
+returns-2 : tie.Need-returns-2
+unfolding wordGiven codeLeft
+returns-2 c =
+    rw (c .before .before .before .before .before .operation2 .given .1) (refl, (c .before .before .set .ensures, sym (set-getD _ _ _)))
+
+same-length-3 : tie.Need-same-length-3
+same-length-3 c = search needs
+
+returns-3 : tie.Need-returns-3
+unfolding wordGiven codeLeft
+returns-3 c =
+    rw (c .before .before .before .before .before .enum-told .given .1)
+    (refl, (c .before .before .before .reset .ensures .0, rw (c .before .before .before .reset .ensures .1)))
+
+pub perform-spec : {M : Type 1} → statement M
+perform-spec =
+    tie.close
+    (tie.spec
+    enum-known-operation
+    insert-requires
+    enum-known-operation-2
+    set-requires
+    enum-told
+    reset-requires
+    mul-next
+    way-write-given-next
+    same-length
+    returns
+    same-length-2
+    returns-2
+    same-length-3
+    returns-3)

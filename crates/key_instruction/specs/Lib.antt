@@ -1,0 +1,2 @@
+-- What the helpers of this crate ask and give.
+pub mod Units

@@ -1,0 +1,51 @@
+// The three operations on one key or two: the key of unit u, which is the low-order one, and that of unit u + 1.
+use storage_key::after_reset;
+use storage_key::code_of;
+use storage_key::joined;
+use storage_key::key_in;
+use storage_key::key_of;
+ghost use mathlib.Core.Path.{_≡_};
+ghost use lib.ListN.{length, getD};
+ghost use Rattle.machine.specs.declared.KeyOperation.the-variants.{Insert, Set, Reset};
+ghost use Rattle.machine.specs.KeyInstructions.{wordGiven, keysLeft};
+ghost use Rattle.machine.specs.Key.{codeOf};
+ghost use Rattle.key_instruction.specs.Units.{Inside};
+
+// The word of R1 with its bits 24-30 replaced by the key, and bit 31 zero.
+pub(crate) fn insert(keys: &[u8], u: usize, two: bool, r1: u32) -> u32
+    requires { ⌜ Inside (length (now keys)) u two ⌝ }
+    ensures { λ r. ⌜ r ≡ wordGiven (now (keys .entry)) u two (Insert r1) ⌝ }
+{
+    let rest = r1 / 256 * 256;
+    if two {
+        rest + joined(keys[u], keys[u + 1]) as u32
+    } else {
+        rest + key_of(keys[u]) as u32
+    }
+}
+
+// The key becomes bits 24-30 of R1.
+pub(crate) fn set(keys: &mut [u8], u: usize, two: bool, r1: u32)
+    requires { ⌜ Inside (length (now keys)) u two ⌝ }
+    ensures { λ r. ⌜ now (keys .exit) ≡ keysLeft (now (keys .entry)) u two (Set r1) ⌝ }
+{
+    let key = key_in(r1);
+    keys[u] = key;
+    if two {
+        keys[u + 1] = key;
+    }
+}
+
+// The reference bit becomes zero; the condition code is the low-order key's.
+pub(crate) fn reset(keys: &mut [u8], u: usize, two: bool) -> u8
+    requires { ⌜ Inside (length (now keys)) u two ⌝ }
+    ensures { λ r. ⌜ (now (keys .exit) ≡ keysLeft (now (keys .entry)) u two Reset) × (r ≡ codeOf (getD (now (keys .entry)) u 0)) ⌝ }
+{
+    let low = keys[u];
+    let code = code_of(low);
+    keys[u] = after_reset(low);
+    if two {
+        keys[u + 1] = after_reset(keys[u + 1]);
+    }
+    code
+}

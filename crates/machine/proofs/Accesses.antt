@@ -36,11 +36,12 @@ use Rattle.machine.proofs.Requests.{either-way, completed-by-table, com
 abbrev pub Matches : ℕ → ℕ → Type 0
 Matches accessKey k = (accessKey ≡ 0) ⊎ (accessKey ≡ accessControl k)
 
--- what document 01 asks of a byte at a real address in a unit with the key k
+-- what an access asks of its byte at a real address, in a unit with the key k
 abbrev pub Allowed : AccessKind → Processor → ℕ → ℕ → Type 0
 Allowed Store p real k = (p .«low_protection» ≡ true → 512 ≤ real) × Matches (p .key) k
 Allowed Fetch p real k = Matches (p .key) k ⊎ (fetchProtection k ≡ 0)
 
+-- The tests as sentences.
 either : {P Q : Type 0} (a b : Bool) → (a ≡ true) ↔ P → (b ≡ true) ↔ Q → (a || b ≡ true) ↔ (P ⊎ Q)
 either true b f g = (λ e. inl (f .0 refl), λ h. refl)
 either false b f g = (λ e. inr (g .0 e), ⊎-elim (λ x. absurd (not-both (f .1 x) refl)) (g .1))

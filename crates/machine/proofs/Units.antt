@@ -71,6 +71,7 @@ module _ (s : Settings) where
   pub unit-in-block : (x : ℕ) → unitOf s x ≡ block x * keysOfBlock s + x % 4096 / unitSize s
   unit-in-block x = unit-by-place (unitSize s) positive 4096 (keysOfBlock s) x (units-of-block s)
 
+  -- and that place is below the number of the block's keys
   pub place-in-block : (x : ℕ) → x % 4096 / unitSize s < keysOfBlock s
   place-in-block x = div-lt-iff-lt-mul positive .1 (omega (arith, units-of-block s))
 

@@ -6,5 +6,9 @@ pub mod Prefixing
 pub mod Units
 pub mod KeyBytes
 pub mod Plans
+pub mod AbsoluteAddress
 pub mod Requests
 pub mod Accesses
+pub mod KeyInstructions
+pub mod Named
+pub mod Order

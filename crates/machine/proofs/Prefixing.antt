@@ -1,7 +1,7 @@
 -- Prefixing exchanges the block at 0 and the block of the prefix, and leaves every other address as it is. The proofs go by these three
 -- cases. Assumes nothing.
 use Prim.Native.Nat.{ℕ, _+_, _*_, _%_, _<_}
-use mathlib.Core.Path.{_≡_, refl, sym, ap, _∙_}
+use mathlib.Core.Path.{_≡_, sym, ap, _∙_}
 use mathlib.Core.Logic.{_≢_}
 use native.Mathlib.Decide.{ℕ-discrete}
 use native.Mathlib.Omega.{arith}
@@ -65,13 +65,18 @@ prefixing-maps-blocks prefix a b e = rw e (go (eqb (block b) 0) (eqb (block b) (
     go false false = e
 
 -- with a prefix below the length of a storage of whole blocks, a real address inside storage has its absolute address inside
-pub prefixing-stays-inside : (prefix real storageLength : ℕ) → storageLength % 4096 ≡ 0 → prefix < storageLength → real < storageLength → absolute prefix real < storageLength
+pub prefixing-stays-inside : (prefix real storageLength : ℕ)
+    → storageLength % 4096 ≡ 0 → prefix < storageLength → real < storageLength → absolute prefix real < storageLength
 prefixing-stays-inside prefix real storageLength m p r = go (prefixed prefix real)
   where
     go : Prefixed prefix real → absolute prefix real < storageLength
     go (first z a) = omega arith
     go (own z e a) = omega arith
     go (other z e a) = omega arith
+
+-- the real address of the next byte of an access is the next one, and 0 after 16,777,215
+pub next-address : (start i : ℕ) → (add24 start i ≡ 16777215 → add24 start (i + 1) ≡ 0) × (add24 start i ≢ 16777215 → add24 start (i + 1) ≡ add24 start i + 1)
+next-address start i = omega arith
 
 -- the bytes of an access have different absolute addresses
 pub bytes-apart : (p : Processor) (start i j : ℕ) → i < 16777216 → j < 16777216 → byteAt p start i ≡ byteAt p start j → i ≡ j

@@ -4,16 +4,15 @@
 use Prim.Native.Nat.{ℕ, _<_, _≤_}
 use mathlib.Core.Path.{_≡_, refl, sym, ap, subst, _∙_}
 use mathlib.Core.Bool.{Bool, true, false, cond, not}
-use mathlib.Core.Logic.{_≢_, _↔_, _⊎_, inl, inr}
+use mathlib.Core.Logic.{_≢_, _↔_}
 use mathlib.Core.List.{List}
 use native.Mathlib.Decide.{decLt}
 use native.Mathlib.Omega.{arith}
-use lib.ListN.{length, getD, set, length-set}
+use lib.ListN.{length, set, length-set}
 use lib.Seq.{set-out, getD-set-same, getD-set-other}
 use borrow.Author.Tests.{le-ltb}
 use Rattle.machine.specs.declared.Settings.{Settings}
 use Rattle.machine.specs.declared.Processor.{Processor}
-use Rattle.machine.specs.declared.AccessKind.{AccessKind}
 use Rattle.machine.specs.declared.AccessKind.the-variants.{Fetch, Store}
 use Rattle.machine.specs.declared.KeyOperation.{KeyOperation}
 use Rattle.machine.specs.declared.KeyOperation.the-variants.{Insert, Set, Reset}
@@ -22,7 +21,7 @@ use Rattle.machine.specs.declared.Request.the-variants.{Access, Key, Pre
 use Rattle.machine.specs.declared.Reason.{Reason}
 use Rattle.machine.specs.declared.Reason.the-variants.{Configuration, Record, Operand, Operation, Privileged, SpecialOperation, Specification, Addressing, AbsoluteAddress, Protection}
 use Rattle.machine.specs.declared.Answer.{Answer}
-use Rattle.machine.specs.declared.Answer.the-variants.{Completed, Refused}
+use Rattle.machine.specs.declared.Answer.the-variants.{Refused}
 use Rattle.machine.specs.declared.Verdict.{Verdict}
 use Rattle.machine.specs.declared.Verdict.the-variants.{Clear, Stop}
 use Rattle.machine.specs.Numbers.{own, lengthsValid}
@@ -32,6 +31,7 @@ use Rattle.machine.specs.Table.{protection, plan, verdict}
 use Rattle.machine.specs.Step.{Outcome, storageLeft, bufferLeft, keysRecorded, completed, performed, step}
 use Rattle.machine.proofs.Written.{length-written}
 use Rattle.machine.proofs.Verdicts.{not-clear, first-clear}
+use Rattle.machine.proofs.AbsoluteAddress.{table-never-67}
 
 -- every refusal has a number that is not 0
 pub refusal-number : (reason : Reason) → number reason ≢ 0
@@ -86,6 +86,9 @@ module _ (s : Settings) (storage keys : List ℕ) (ps : List Processor) (n : ℕ
       go Clear e = done e
       go (Stop reason place) e = refused reason place e
 
+  pub either-way : (P : Outcome → Type 0) → ((answer : Answer) → P (unchanged answer)) → P (completed s storage keys ps n (own ps n) r buffer) → P after
+  either-way P refused done = by-verdict P (λ reason place e. refused (Refused reason place)) (λ e. done)
+
   -- a request that completes has the number 0
   completed-number : (r : Request) → numberOf (completed s storage keys ps n (own ps n) r buffer .answer) ≡ 0
   unfolding completed
@@ -110,6 +113,12 @@ module _ (s : Settings) (storage keys : List ℕ) (ps : List Processor) (n : ℕ
       by-verdict (λ o. (o .answer ≡ Refused reason place) ↔ (table ≡ Stop reason place)) (λ q l e. ((λ h. cc), (λ h. cc)))
       (λ e. (λ h. absurd (refusal-number reason (sym (ap numberOf h) ∙ completed-number r)), λ h. absurd (not-clear h e)))
 
+  -- no request is refused by line 67
+  pub never-67 : numberOf (after .answer) ≢ 67
+  never-67 =
+      by-verdict (λ o. numberOf (o .answer) ≢ 67) (λ reason place e. rw e at (table-never-67 s (length storage) keys n (own ps n) r (length buffer)))
+      (λ e. rw (completed-number r) (omega arith))
+
   -- what a completed request leaves, and that its plan is clear
   pub completed-step : numberOf (after .answer) ≡ 0 → after ≡ completed s storage keys ps n (own ps n) r buffer
   completed-step =
@@ -123,7 +132,7 @@ module _ (s : Settings) (storage keys : List ℕ) (ps : List Processor) (n : ℕ
   -- the lengths of storage, key array, pair of records and buffer never change
   pub lengths-stay : SameLengths after
   unfolding completed storageLeft bufferLeft keysRecorded
-  lengths-stay = by-verdict SameLengths (λ reason place e. (refl, refl, refl, refl)) (λ e. go r)
+  lengths-stay = either-way SameLengths (λ answer. (refl, refl, refl, refl)) (go r)
     where
       go : (r : Request) → SameLengths (completed s storage keys ps n (own ps n) r buffer)
       go (Access Fetch start count) = (refl, length-written keys _ _ count, refl, length-written buffer _ _ count)
@@ -134,7 +143,7 @@ module _ (s : Settings) (storage keys : List ℕ) (ps : List Processor) (n : ℕ
   -- no record but the processor's own changes
   pub other-record-stays : (m : ℕ) → m ≢ n → own (after .processors) m ≡ own ps m
   unfolding completed
-  other-record-stays m d = by-verdict (λ o. own (o .processors) m ≡ own ps m) (λ reason place e. refl) (λ e. go r)
+  other-record-stays m d = either-way (λ o. own (o .processors) m ≡ own ps m) (λ answer. refl) (go r)
     where
       go : (r : Request) → own (completed s storage keys ps n (own ps n) r buffer .processors) m ≡ own ps m
       go (Access kind start count) = refl

@@ -13,7 +13,6 @@ use Rattle.machine.specs.declared.PrefixInstruction.{PrefixInstruction}
 use Rattle.machine.specs.declared.PrefixInstruction.the-variants.{SetPrefix, StorePrefix}
 use Rattle.machine.specs.declared.Answer.{Answer}
 use Rattle.machine.specs.declared.Answer.the-variants.{Completed, Refused}
-use Rattle.machine.specs.declared.Reply.{Reply}
 use Rattle.machine.specs.declared.Verdict.{Verdict}
 use Rattle.machine.specs.declared.Verdict.the-variants.{Clear, Stop}
 use Rattle.machine.specs.Numbers.{own, unitOf, written}
@@ -30,10 +29,8 @@ pub record Outcome : Type 0 where
   pub processors : List Processor
   pub buffer : List ℕ
 
--- the outcome of a call with this reply, which leaves these in storage, key array and buffer
-abbrev pub outcome : Reply → List ℕ → List ℕ → List ℕ → Outcome
-outcome r storage keys buffer =
-    record { answer = r .answer; storage = storage; keys = keys; processors = r .processors; buffer = buffer }
+abbrev pub outcome : Answer → List ℕ → List ℕ → List Processor → List ℕ → Outcome
+outcome answer storage keys ps buffer = record { answer = answer; storage = storage; keys = keys; processors = ps; buffer = buffer }
 
 -- a record with another condition code, and with another prefix
 abbrev pub withCode : Processor → ℕ → Processor
@@ -71,34 +68,23 @@ prefixGiven p StorePrefix = p .prefix
 -- a request that is completed, p being the record of processor n
 unfoldable pub completed : Settings → List ℕ → List ℕ → List Processor → ℕ → Processor → Request → List ℕ → Outcome
 completed s storage keys ps n p (Access kind start count) buffer =
-    record {
-      answer = Completed 0;
-      storage = storageLeft kind storage p start count buffer;
-      keys = keysRecorded s kind keys p start count;
-      processors = ps;
-      buffer = bufferLeft kind storage p start count buffer;
-    }
+    outcome (Completed 0)
+    (storageLeft kind storage p start count buffer)
+    (keysRecorded s kind keys p start count)
+    ps
+    (bufferLeft kind storage p start count buffer)
 completed s storage keys ps n p (Key i) buffer =
-    record {
-      answer = Completed (wordGiven keys (firstUnit s p i) (twoKeys s i) (operation i));
-      storage = storage;
-      keys = keysLeft keys (firstUnit s p i) (twoKeys s i) (operation i);
-      processors = set ps n (withCode p (codeLeft keys (firstUnit s p i) (operation i) (p .code)));
-      buffer = buffer;
-    }
+    outcome (Completed (wordGiven keys (firstUnit s p i) (twoKeys s i) (operation i)))
+    storage
+    (keysLeft keys (firstUnit s p i) (twoKeys s i) (operation i))
+    (set ps n (withCode p (codeLeft keys (firstUnit s p i) (operation i) (p .code))))
+    buffer
 completed s storage keys ps n p (Prefix i) buffer =
-    record {
-      answer = Completed (prefixGiven p i);
-      storage = storage;
-      keys = keys;
-      processors = set ps n (prefixLeft p i);
-      buffer = buffer;
-    }
+    outcome (Completed (prefixGiven p i)) storage keys (set ps n (prefixLeft p i)) buffer
 
 -- with any number but 0, nothing lent and neither record changes
 unfoldable pub performed : Verdict → Settings → List ℕ → List ℕ → List Processor → ℕ → Request → List ℕ → Outcome
-performed (Stop reason place) s storage keys ps n r buffer =
-    record { answer = Refused reason place; storage = storage; keys = keys; processors = ps; buffer = buffer }
+performed (Stop reason place) s storage keys ps n r buffer = outcome (Refused reason place) storage keys ps buffer
 performed Clear s storage keys ps n r buffer = completed s storage keys ps n (own ps n) r buffer
 
 unfoldable pub step : Settings → List ℕ → List ℕ → List Processor → ℕ → Request → List ℕ → Outcome

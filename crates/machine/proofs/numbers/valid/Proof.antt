@@ -1,7 +1,7 @@
--- `configuration` is the first of the two lines: by what each call gives. Assumes nothing.
+-- `valid` combines lines 64 and 65 as the rules do. Assumes nothing.
 use borrow.Author.Needs.{needs}
-use Rattle.machine.proofs.answers.configuration.Statement.{statement}
-use Rattle.machine.proofs.answers.configuration.Tie as tie
+use Rattle.machine.proofs.numbers.valid.Statement.{statement}
+use Rattle.machine.proofs.numbers.valid.Tie as tie
 
 lengths-valid-requires : tie.Need-lengths-valid-requires
 lengths-valid-requires c κs = search needs
@@ -19,17 +19,10 @@ first-of-requires : tie.Need-first-of-requires
 first-of-requires c κs = search needs
 
 returns : tie.Need-returns
-returns c =
-    rw (
-      c .first-of .ensures,
-      c .before .refuse2 .ensures,
-      c .before .before .refuse .ensures,
-      c .before .before .before .record-valid .ensures,
-      c .before .before .before .before .lengths-valid .ensures,
-    )
+returns c = rw (c .first-of .ensures, c .before .refuse2 .ensures, c .before .before .refuse .ensures, c .before .before .before .record-valid .ensures, c .before .before .before .before .lengths-valid .ensures)
 
-pub configuration-spec : {M : Type 1} → statement M
-configuration-spec =
+pub valid-spec : {M : Type 1} → statement M
+valid-spec =
     tie.close
     (tie.spec
     lengths-valid-requires

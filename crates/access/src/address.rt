@@ -1,0 +1,49 @@
+// The bytes of an access: their absolute addresses, their units, and where the second unit begins.
+use machine::Processor;
+use machine::Settings;
+use machine::numbers::unit_of;
+use prefixing::absolute;
+use prefixing::add24;
+ghost use mathlib.Core.Path.{_≡_};
+ghost use Rattle.machine.specs.Numbers.{unitOf};
+ghost use Rattle.machine.specs.Prefixing.{byteAt};
+ghost use Rattle.access.specs.Runs.{left as leftOf, second as secondOf};
+
+// The absolute address of byte i.
+pub(crate) fn byte_at(p: Processor, start: u32, i: u32) -> usize
+    ensures { λ r. ⌜ r ≡ byteAt p start i ⌝ }
+{
+    absolute(p.prefix, add24(start, i)) as usize
+}
+
+// The unit of byte i.
+pub(crate) fn unit_at(settings: Settings, p: Processor, start: u32, i: u32) -> usize
+    ensures { λ r. ⌜ r ≡ unitOf settings (byteAt p start i) ⌝ }
+{
+    unit_of(settings, byte_at(p, start, i))
+}
+
+// How many bytes from an address to the end of its unit.
+pub(crate) fn left(settings: Settings, start: u32) -> u32
+    ensures { λ r. ⌜ r ≡ leftOf settings start ⌝ }
+{
+    if settings.four_k {
+        4096 - start % 4096
+    } else {
+        2048 - start % 2048
+    }
+}
+
+// The first byte in the second unit; where there is no second unit, the last byte.
+pub(crate) fn second(settings: Settings, start: u32, count: u32) -> u32
+    ensures { λ r. ⌜ r ≡ secondOf settings start count ⌝ }
+{
+    let first = left(settings, start);
+    if first < count {
+        return first;
+    }
+    if count == 0 {
+        return 0;
+    }
+    count - 1
+}

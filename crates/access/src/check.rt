@@ -1,0 +1,116 @@
+// The table of answers for an access. An access touches at most two units, and each line is tested at two bytes: byte 0, and the first
+// byte in the second unit.
+use crate::address::second;
+use crate::address::unit_at;
+use machine::AccessKind;
+use machine::Processor;
+use machine::Reason;
+use machine::Request;
+use machine::Settings;
+use machine::Verdict;
+use machine::answers::first_of;
+use machine::answers::refuse;
+use machine::numbers::valid;
+use prefixing::absolute;
+use prefixing::add24;
+use storage_key::forbidden;
+ghost use mathlib.Core.Path.{_≡_};
+ghost use lib.ListN.{getD};
+ghost use Rattle.machine.specs.Numbers.{unitOf};
+ghost use Rattle.machine.specs.Answers.{line};
+ghost use Rattle.machine.specs.Prefixing.{byteAt};
+ghost use Rattle.machine.specs.Table.{operandInvalid, absoluteOutside, verdict as verdictOf};
+ghost use Rattle.access.specs.Runs.{twoTests, linesAt};
+
+fn two_tests(reason: Reason, here: bool, k: u32, there: bool) -> Verdict
+    ensures { λ r. ⌜ r ≡ twoTests reason here k there ⌝ }
+{
+    if here {
+        return Verdict::Stop { reason, place: 0 };
+    }
+    if there {
+        return Verdict::Stop { reason, place: k };
+    }
+    Verdict::Clear
+}
+
+// Line 66.
+fn operand(kind: AccessKind, start: u32, count: u32, buffer_length: usize) -> Verdict
+    ensures { λ r. ⌜ r ≡ line Reason.Operand (operandInvalid (Request.Access kind start count) «buffer_length») ⌝ }
+{
+    refuse(
+        Reason::Operand,
+        (count == 0) | (256 < count) | (16777216 <= start) | (buffer_length < count as usize),
+    )
+}
+
+fn absolute_outside(storage_length: usize, p: Processor, real: u32) -> bool
+    ensures { λ r. ⌜ r ≡ absoluteOutside «storage_length» p real ⌝ }
+{
+    let at = absolute(p.prefix, real);
+    ((real as usize) < storage_length) & (storage_length <= at as usize)
+}
+
+// The key of the unit of byte i, or 0 where the array has none.
+fn key_at(settings: Settings, keys: &[u8], p: Processor, start: u32, i: u32) -> u8
+    ensures { λ r. ⌜ r ≡ getD (now (keys .entry)) (unitOf settings (byteAt p start i)) 0 ⌝ }
+{
+    let unit = unit_at(settings, p, start, i);
+    if unit < keys.len() { keys[unit] } else { 0 }
+}
+
+// Line 5 of the table at two bytes, then line 67, then line 4.
+fn by_unit(
+    settings: Settings,
+    storage_length: usize,
+    keys: &[u8],
+    p: Processor,
+    kind: AccessKind,
+    start: u32,
+    k: u32,
+) -> Verdict
+    ensures { λ r. ⌜ r ≡ linesAt settings «storage_length» (now (keys .entry)) p kind start k ⌝ }
+{
+    let here = add24(start, 0);
+    let there = add24(start, k);
+    let outside = two_tests(
+        Reason::Addressing,
+        storage_length <= here as usize,
+        k,
+        storage_length <= there as usize,
+    );
+    let beyond = two_tests(
+        Reason::AbsoluteAddress,
+        absolute_outside(storage_length, p, here),
+        k,
+        absolute_outside(storage_length, p, there),
+    );
+    let protected = two_tests(
+        Reason::Protection,
+        forbidden(kind, p, here, key_at(settings, keys, p, start, 0)),
+        k,
+        forbidden(kind, p, there, key_at(settings, keys, p, start, k)),
+    );
+    first_of(outside, first_of(beyond, protected))
+}
+
+// The verdict of the table on an access.
+pub(crate) fn verdict(
+    settings: Settings,
+    storage_length: usize,
+    keys: &[u8],
+    number: usize,
+    p: Processor,
+    kind: AccessKind,
+    start: u32,
+    count: u32,
+    buffer_length: usize,
+) -> Verdict
+    ensures { λ r. ⌜ r ≡ verdictOf settings «storage_length» (now (keys .entry)) number p (Request.Access kind start count) «buffer_length» ⌝ }
+{
+    let k = second(settings, start, count);
+    let usable = valid(settings, storage_length, keys.len(), number, p);
+    let operands = operand(kind, start, count, buffer_length);
+    let bytes = by_unit(settings, storage_length, keys, p, kind, start, k);
+    first_of(usable, first_of(operands, bytes))
+}

@@ -1,0 +1,105 @@
+// Fetch and store of 1 to 256 bytes over lent storage, keys and buffer. A refused access touches nothing.
+mod address;
+mod check;
+mod transfer;
+
+use crate::address::second;
+use crate::check::verdict;
+use crate::transfer::fetch_bytes;
+use crate::transfer::record;
+use crate::transfer::store_bytes;
+use machine::AccessKind;
+use machine::Answer;
+use machine::Processor;
+use machine::Request;
+use machine::Settings;
+use machine::Verdict;
+use machine::numbers::own;
+ghost use mathlib.Core.Path.{_≡_};
+ghost use Rattle.machine.specs.Step.{outcome, step};
+
+// A store of the first `count` bytes of `bytes` at a real address, for the processor with this number.
+pub fn store(
+    settings: Settings,
+    storage: &mut [u8],
+    keys: &mut [u8],
+    processors: [Processor; 2],
+    number: usize,
+    start: u32,
+    count: u32,
+    bytes: &[u8],
+) -> Answer
+    ensures { λ r. ⌜ outcome r (now (storage .exit)) (now (keys .exit)) processors (now (bytes .entry)) ≡ step settings (now (storage .entry)) (now (keys .entry)) processors number (Request.Access AccessKind.Store start count) (now (bytes .entry)) ⌝ }
+{
+    let p = own(processors, number);
+    let kind = AccessKind::Store;
+    let found = verdict(
+        settings,
+        storage.len(),
+        &keys[..],
+        number,
+        p,
+        kind,
+        start,
+        count,
+        bytes.len(),
+    );
+    match found {
+        Verdict::Clear => {
+            store_bytes(settings, storage, p, start, count, bytes);
+            record(
+                settings,
+                keys,
+                p,
+                kind,
+                start,
+                second(settings, start, count),
+            );
+            Answer::Completed { word: 0 }
+        }
+        Verdict::Stop { reason, place } => Answer::Refused { reason, place },
+    }
+}
+
+// A fetch of `count` bytes from a real address into the first bytes of `buffer`, for the processor with this number.
+pub fn fetch(
+    settings: Settings,
+    storage: &[u8],
+    keys: &mut [u8],
+    processors: [Processor; 2],
+    number: usize,
+    start: u32,
+    count: u32,
+    buffer: &mut [u8],
+) -> Answer
+    ensures { λ r. ⌜ outcome r (now (storage .entry)) (now (keys .exit)) processors (now (buffer .exit)) ≡ step settings (now (storage .entry)) (now (keys .entry)) processors number (Request.Access AccessKind.Fetch start count) (now (buffer .entry)) ⌝ }
+{
+    let p = own(processors, number);
+    let kind = AccessKind::Fetch;
+    let found = verdict(
+        settings,
+        storage.len(),
+        &keys[..],
+        number,
+        p,
+        kind,
+        start,
+        count,
+        buffer.len(),
+    );
+    match found {
+        Verdict::Clear => {
+            fetch_bytes(settings, storage, p, start, count, buffer);
+            record(
+                settings,
+                keys,
+                p,
+                kind,
+                start,
+                second(settings, start, count),
+            );
+            Answer::Completed { word: 0 }
+        }
+        Verdict::Stop { reason, place } => Answer::Refused { reason, place },
+    }
+}

@@ -1,5 +1,5 @@
 -- The laws that several proofs share.
 pub mod Lines
 pub mod Keys
-pub mod Cleared
+pub mod Inside
 pub mod Steps

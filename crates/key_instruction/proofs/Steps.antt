@@ -11,7 +11,7 @@ use Rattle.machine.specs.declared.KeyInstruction.{KeyInstruction}
 use Rattle.machine.specs.declared.KeyOperation.{KeyOperation}
 use Rattle.machine.specs.declared.Request.the-variants.{Key}
 use Rattle.machine.specs.declared.Reason.{Reason}
-use Rattle.machine.specs.declared.Reply.{Reply}
+use Rattle.machine.specs.declared.Answer.{Answer}
 use Rattle.machine.specs.declared.Answer.the-variants.{Completed, Refused}
 use Rattle.machine.specs.declared.Verdict.{Verdict}
 use Rattle.machine.specs.declared.Verdict.the-variants.{Clear, Stop}
@@ -38,11 +38,11 @@ module _ (s : Settings) (keys : List ℕ) (ps : List Processor) (n : ℕ) (i : K
   unfolding performed
   refused-step stop = rw (by-verdict, stop)
 
-  pub completed-step : {u : ℕ} {two : Bool} {o : KeyOperation} {r : Reply} {left : List ℕ}
+  pub completed-step : {u : ℕ} {two : Bool} {o : KeyOperation} {answer : Answer} {left : List ℕ} {qs : List Processor}
       → v ≡ Clear → u ≡ firstUnit s p i → two ≡ twoKeys s i → o ≡ operation i
-      → r .answer ≡ Completed (wordGiven keys u two o) → left ≡ keysLeft keys u two o
-      → r .processors ≡ set ps n (withCode (own ps n) (codeLeft keys u o (own ps n .code)))
-      → outcome (r .answer) storage left (r .processors) buffer ≡ step s storage keys ps n (Key i) buffer
+      → answer ≡ Completed (wordGiven keys u two o) → left ≡ keysLeft keys u two o
+      → qs ≡ set ps n (withCode (own ps n) (codeLeft keys u o (own ps n .code)))
+      → outcome answer storage left qs buffer ≡ step s storage keys ps n (Key i) buffer
   unfolding performed completed
-  completed-step clear unit two operated answer left processors =
-      rw (by-verdict, clear, answer, left, processors, unit, two, operated, record-given)
+  completed-step clear unit two operated word keys-left records =
+      rw (by-verdict, clear, word, keys-left, records, unit, two, operated, record-given)

@@ -6,21 +6,21 @@ use crate::operands::unspecified;
 use machine::KeyInstruction;
 use machine::Processor;
 use machine::Reason;
+use machine::Request;
 use machine::Settings;
 use machine::Verdict;
-use machine::answers::configuration;
 use machine::answers::first_of;
 use machine::answers::refuse;
+use machine::numbers::valid;
 ghost use mathlib.Core.Path.{_≡_};
 ghost use Rattle.machine.specs.Answers.{line, firstOf};
 ghost use Rattle.machine.specs.Table.{operandInvalid, notInstalled, notPrivileged, notControlled, notSpecified, addressing, absoluteAddressing, plan};
-ghost use Rattle.machine.specs.declared.Request.the-variants.{Key};
 
 // Lines 66 and 1: the address of RRB, and the extensions.
 fn operand_lines(settings: Settings, instruction: KeyInstruction) -> Verdict
     ensures { λ r. ⌜ r
-        ≡ firstOf (line Reason.Operand (operandInvalid (Key instruction) 0))
-        (line Reason.Operation (notInstalled settings (Key instruction))) ⌝ }
+        ≡ firstOf (line Reason.Operand (operandInvalid (Request.Key instruction) 0))
+        (line Reason.Operation (notInstalled settings (Request.Key instruction))) ⌝ }
 {
     let invalid = address_invalid(instruction);
     let extended = extended(instruction);
@@ -33,9 +33,9 @@ fn operand_lines(settings: Settings, instruction: KeyInstruction) -> Verdict
 // Lines 2, 19 and 6: the state, CR0 bit 7, and bits 28-31 of R2.
 fn state_lines(settings: Settings, p: Processor, instruction: KeyInstruction) -> Verdict
     ensures { λ r. ⌜ r
-        ≡ firstOf (line Reason.Privileged (notPrivileged p (Key instruction)))
-        (firstOf (line Reason.SpecialOperation (notControlled settings p (Key instruction)))
-        (line Reason.Specification (notSpecified (Key instruction)))) ⌝ }
+        ≡ firstOf (line Reason.Privileged (notPrivileged p (Request.Key instruction)))
+        (firstOf (line Reason.SpecialOperation (notControlled settings p (Request.Key instruction)))
+        (line Reason.Specification (notSpecified (Request.Key instruction)))) ⌝ }
 {
     let extended = extended(instruction);
     let unspecified = unspecified(instruction);
@@ -53,8 +53,8 @@ fn state_lines(settings: Settings, p: Processor, instruction: KeyInstruction) ->
 // Lines 5 and 67: the real address of the block, and its absolute address.
 fn address_lines(storage_length: usize, p: Processor, instruction: KeyInstruction) -> Verdict
     ensures { λ r. ⌜ r
-        ≡ firstOf (addressing «storage_length» (Key instruction))
-        (absoluteAddressing «storage_length» p (Key instruction)) ⌝ }
+        ≡ firstOf (addressing «storage_length» (Request.Key instruction))
+        (absoluteAddressing «storage_length» p (Request.Key instruction)) ⌝ }
 {
     let block = designated(instruction);
     let absolute = prefixing::absolute(p.prefix, block) as usize;
@@ -77,9 +77,9 @@ pub(crate) fn verdict(
     p: Processor,
     instruction: KeyInstruction,
 ) -> Verdict
-    ensures { λ r. ⌜ r ≡ plan settings «storage_length» «key_length» number p (Key instruction) 0 ⌝ }
+    ensures { λ r. ⌜ r ≡ plan settings «storage_length» «key_length» number p (Request.Key instruction) 0 ⌝ }
 {
-    let machine = configuration(settings, storage_length, key_length, number, p);
+    let machine = valid(settings, storage_length, key_length, number, p);
     let operand = operand_lines(settings, instruction);
     let state = state_lines(settings, p, instruction);
     let address = address_lines(storage_length, p, instruction);

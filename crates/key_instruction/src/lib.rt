@@ -4,6 +4,7 @@ use machine::KeyInstruction;
 use machine::KeyOperation;
 use machine::Processor;
 use machine::Reply;
+use machine::Request;
 use machine::Settings;
 use machine::Verdict;
 use machine::numbers::own;
@@ -12,8 +13,6 @@ ghost use Prim.Native.Nat.{ℕ, _<_};
 ghost use mathlib.Core.Path.{_≡_};
 ghost use mathlib.Core.List.{List};
 ghost use lib.ListN.{length, set};
-ghost use Rattle.machine.specs.declared.Answer.the-variants.{Completed};
-ghost use Rattle.machine.specs.declared.Request.the-variants.{Key};
 ghost use Rattle.machine.specs.KeyInstructions.{wordGiven, keysLeft, codeLeft};
 ghost use Rattle.machine.specs.Numbers.{own as recordOf};
 ghost use Rattle.machine.specs.Step.{firstUnit, withCode, outcome, step};
@@ -42,7 +41,7 @@ fn perform(
     operation: KeyOperation,
 ) -> Reply
     requires { ⌜ Inside (length (now keys)) u two × (number < 2) ⌝ }
-    ensures { λ r. ⌜ r .answer ≡ Completed (wordGiven (now (keys .entry)) u two operation) ⌝ }
+    ensures { λ r. ⌜ r .answer ≡ Answer.Completed (wordGiven (now (keys .entry)) u two operation) ⌝ }
     ensures { λ r. ⌜ now (keys .exit) ≡ keysLeft (now (keys .entry)) u two operation ⌝ }
     ensures { λ r. ⌜ r .processors
         ≡ set processors number
@@ -85,7 +84,7 @@ pub fn key_instruction(
     instruction: KeyInstruction,
 ) -> Reply
     ensures { λ r. ⌜ ((storage buffer : List ℕ) → length storage ≡ «storage_length»
-        → outcome (r .answer) storage (now (keys .exit)) (r .processors) buffer ≡ step settings storage (now (keys .entry)) processors number (Key instruction) buffer) ⌝ }
+        → outcome (r .answer) storage (now (keys .exit)) (r .processors) buffer ≡ step settings storage (now (keys .entry)) processors number (Request.Key instruction) buffer) ⌝ }
 {
     let p = own(processors, number);
     let verdict = checks::verdict(settings, storage_length, keys.len(), number, p, instruction);

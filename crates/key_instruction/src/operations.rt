@@ -1,4 +1,5 @@
 // The three operations on one key or two: the key of unit u, which is the low-order one, and that of unit u + 1.
+use machine::KeyOperation;
 use storage_key::after_reset;
 use storage_key::code_of;
 use storage_key::joined;
@@ -6,7 +7,6 @@ use storage_key::key_in;
 use storage_key::key_of;
 ghost use mathlib.Core.Path.{_≡_};
 ghost use lib.ListN.{length, getD};
-ghost use Rattle.machine.specs.declared.KeyOperation.the-variants.{Insert, Set, Reset};
 ghost use Rattle.machine.specs.KeyInstructions.{wordGiven, keysLeft};
 ghost use Rattle.machine.specs.Key.{codeOf};
 ghost use Rattle.key_instruction.specs.Units.{Inside};
@@ -14,7 +14,7 @@ ghost use Rattle.key_instruction.specs.Units.{Inside};
 // The word of R1 with its bits 24-30 replaced by the key, and bit 31 zero.
 pub(crate) fn insert(keys: &[u8], u: usize, two: bool, r1: u32) -> u32
     requires { ⌜ Inside (length (now keys)) u two ⌝ }
-    ensures { λ r. ⌜ r ≡ wordGiven (now (keys .entry)) u two (Insert r1) ⌝ }
+    ensures { λ r. ⌜ r ≡ wordGiven (now (keys .entry)) u two (KeyOperation.Insert r1) ⌝ }
 {
     let rest = r1 / 256 * 256;
     if two {
@@ -27,7 +27,7 @@ pub(crate) fn insert(keys: &[u8], u: usize, two: bool, r1: u32) -> u32
 // The key becomes bits 24-30 of R1.
 pub(crate) fn set(keys: &mut [u8], u: usize, two: bool, r1: u32)
     requires { ⌜ Inside (length (now keys)) u two ⌝ }
-    ensures { λ r. ⌜ now (keys .exit) ≡ keysLeft (now (keys .entry)) u two (Set r1) ⌝ }
+    ensures { λ r. ⌜ now (keys .exit) ≡ keysLeft (now (keys .entry)) u two (KeyOperation.Set r1) ⌝ }
 {
     let key = key_in(r1);
     keys[u] = key;
@@ -39,7 +39,7 @@ pub(crate) fn set(keys: &mut [u8], u: usize, two: bool, r1: u32)
 // The reference bit becomes zero; the condition code is the low-order key's.
 pub(crate) fn reset(keys: &mut [u8], u: usize, two: bool) -> u8
     requires { ⌜ Inside (length (now keys)) u two ⌝ }
-    ensures { λ r. ⌜ (now (keys .exit) ≡ keysLeft (now (keys .entry)) u two Reset) × (r ≡ codeOf (getD (now (keys .entry)) u 0)) ⌝ }
+    ensures { λ r. ⌜ (now (keys .exit) ≡ keysLeft (now (keys .entry)) u two KeyOperation.Reset) × (r ≡ codeOf (getD (now (keys .entry)) u 0)) ⌝ }
 {
     let low = keys[u];
     let code = code_of(low);

@@ -1,6 +1,6 @@
 -- `key_instruction` gives and leaves what the rules' step does: by the verdict. Where it is clear the keys lie in the array. Assumes nothing.
 use mathlib.Core.Path.{sym, _∙_}
-use Rattle.key_instruction.proofs.Cleared.{keys-inside}
+use Rattle.key_instruction.proofs.Inside.{keys-inside}
 use Rattle.key_instruction.proofs.Steps.{refused-step, completed-step}
 use borrow.Author.Needs.{needs}
 use Rattle.key_instruction.proofs.key_instruction.Statement.{statement}

@@ -5,8 +5,8 @@ use borrow.Author.Needs.{needs}
 use Rattle.key_instruction.proofs.checks.verdict.Statement.{statement}
 use Rattle.key_instruction.proofs.checks.verdict.Tie as tie
 
-configuration-requires : tie.Need-configuration-requires
-configuration-requires c κs = search needs
+valid-requires : tie.Need-valid-requires
+valid-requires c κs = search needs
 
 operand-lines-requires : tie.Need-operand-lines-requires
 operand-lines-requires c κs = search needs
@@ -36,14 +36,14 @@ returns c =
       c .before .before .before .address-lines .ensures,
       c .before .before .before .before .state-lines .ensures,
       c .before .before .before .before .before .operand-lines .ensures,
-      c .before .before .before .before .before .before .configuration .ensures,
+      c .before .before .before .before .before .before .valid .ensures,
     ) (nine-lines _ _ _ _ _ _ _ _ _)
 
 pub verdict-spec : {M : Type 1} → statement M
 verdict-spec =
     tie.close
     (tie.spec
-    configuration-requires
+    valid-requires
     operand-lines-requires
     state-lines-requires
     address-lines-requires

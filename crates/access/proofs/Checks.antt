@@ -24,7 +24,7 @@ use Rattle.machine.specs.Answers.{line, firstOf, firstByte, firstLine}
 use Rattle.machine.specs.Prefixing.{byteAt}
 use Rattle.machine.specs.Protection.{lowProtected, permitted, forbidden}
 use Rattle.machine.specs.Table.{operandInvalid, absoluteOutside, addressing, absoluteAddressing, protection, plan, verdict}
-use Rattle.machine.proofs.Verdicts.{both, neither, bytes-none, bytes-stop}
+use Rattle.machine.proofs.Verdicts.{both, neither, first-assoc, bytes-none, bytes-stop}
 use Rattle.access.specs.Runs.{second, twoTests, linesAt}
 use Rattle.access.proofs.Runs.{Run, second-below, before-second, from-second, real-below, byte-below, real-step, unit-same}
 
@@ -85,11 +85,6 @@ byUnit s m keys n p kind start count b =
     (firstOf (line Operand (operandInvalid (Access kind start count) b))
     (linesAt s m keys p kind start (second s start count)))
 
-first-of-assoc : (u v w : Verdict) → firstOf (firstOf u v) w ≡ firstOf u (firstOf v w)
-unfolding firstOf
-first-of-assoc Clear v w = refl
-first-of-assoc (Stop r q) v w = refl
-
 pub by-unit : (s : Settings) (m : ℕ) (keys : List ℕ) (n : ℕ) (p : Processor) (kind : AccessKind) (start count b : ℕ) → byUnit s m keys n p kind start count b ≡ verdict s m keys n p (Access kind start count) b
 unfolding line firstOf firstLine plan verdict addressing absoluteAddressing protection
 by-unit s m keys n p kind start count b = go (lengthsValid s m (length keys)) refl (ltb n 2 && recordValid m p) refl (operandInvalid (Access kind start count) b) refl
@@ -108,7 +103,7 @@ by-unit s m keys n p kind start count b = go (lengthsValid s m (length keys)) re
           by-two s m e p start count some most AbsoluteAddress (λ i. absoluteOutside m p (add24 start i)) (λ f i r. absolute-later s m e p start f i r),
           by-two s m e p start count some most Protection (λ i. forbidden kind p (add24 start i) (getD keys (unitOf s (byteAt p start i)) 0)) (λ f i r. permitted-later s m e p start f i r keys kind),
         )
-        (simp first-of-assoc)
+        (simp first-assoc)
     go true ex true ey true ez = rw (ex, ey, ez)
     go true ex false ey z ez = rw (ex, ey)
     go false ex y ey z ez = rw ex

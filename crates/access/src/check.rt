@@ -8,9 +8,9 @@ use machine::Reason;
 use machine::Request;
 use machine::Settings;
 use machine::Verdict;
-use machine::answers::configuration;
 use machine::answers::first_of;
 use machine::answers::refuse;
+use machine::numbers::valid;
 use prefixing::absolute;
 use prefixing::add24;
 use storage_key::forbidden;
@@ -109,7 +109,7 @@ pub(crate) fn verdict(
     ensures { λ r. ⌜ r ≡ verdictOf settings «storage_length» (now (keys .entry)) number p (Request.Access kind start count) «buffer_length» ⌝ }
 {
     let k = second(settings, start, count);
-    let machine = configuration(settings, storage_length, keys.len(), number, p);
+    let machine = valid(settings, storage_length, keys.len(), number, p);
     let operands = operand(kind, start, count, buffer_length);
     let bytes = by_unit(settings, storage_length, keys, p, kind, start, k);
     first_of(machine, first_of(operands, bytes))

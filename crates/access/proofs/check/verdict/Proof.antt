@@ -7,8 +7,8 @@ use Rattle.access.proofs.check.verdict.Tie as tie
 second-requires : tie.Need-second-requires
 second-requires c κs = search needs
 
-configuration-requires : tie.Need-configuration-requires
-configuration-requires c κs = search needs
+valid-requires : tie.Need-valid-requires
+valid-requires c κs = search needs
 
 operand-requires : tie.Need-operand-requires
 operand-requires c κs = search needs
@@ -23,14 +23,14 @@ first-of-requires-2 : tie.Need-first-of-requires-2
 first-of-requires-2 c κs = search needs
 
 returns : tie.Need-returns
-returns c = rw (c .first-of2 .ensures, c .before .first-of .ensures, c .before .before .by-unit .ensures, c .before .before .before .operand .ensures, c .before .before .before .before .configuration .ensures, c .before .before .before .before .before .second .ensures) (by-unit _ _ _ _ _ _ _ _ _)
+returns c = rw (c .first-of2 .ensures, c .before .first-of .ensures, c .before .before .by-unit .ensures, c .before .before .before .operand .ensures, c .before .before .before .before .valid .ensures, c .before .before .before .before .before .second .ensures) (by-unit _ _ _ _ _ _ _ _ _)
 
 pub verdict-spec : {M : Type 1} → statement M
 verdict-spec =
     tie.close
     (tie.spec
     second-requires
-    configuration-requires
+    valid-requires
     operand-requires
     by-unit-requires
     first-of-requires

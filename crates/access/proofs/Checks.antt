@@ -1,8 +1,8 @@
 -- The table of an access by two tests is the table by byte: of the bytes before the second unit and of those from there on, the first
 -- decides. Assumes nothing.
-use Prim.Native.Nat.{ℕ, _+_, _-_, _%_, _<_, _≤_}
-use mathlib.Core.Path.{_≡_, refl, sym, ap, _∙_}
-use mathlib.Core.Bool.{Bool, true, false, cond, not, _&&_, _||_, and-false}
+use Prim.Native.Nat.{ℕ, _-_, _%_, _<_, _≤_}
+use mathlib.Core.Path.{_≡_, refl}
+use mathlib.Core.Bool.{Bool, true, false, cond, not, _&&_, and-false}
 use mathlib.Core.List.{List}
 use native.Mathlib.Omega.{arith}
 use native.Mathlib.Nat.{pos-of-ne-zero}
@@ -22,7 +22,7 @@ use Rattle.machine.specs.declared.Verdict.the-variants.{Clear, Stop}
 use Rattle.machine.specs.Numbers.{lengthsValid, recordValid, unitOf, add24}
 use Rattle.machine.specs.Answers.{line, firstOf, firstByte, firstLine}
 use Rattle.machine.specs.Prefixing.{byteAt}
-use Rattle.machine.specs.Protection.{lowProtected, permitted, forbidden}
+use Rattle.machine.specs.Protection.{lowProtected, forbidden}
 use Rattle.machine.specs.Table.{operandInvalid, absoluteOutside, addressing, absoluteAddressing, protection, plan, verdict}
 use Rattle.machine.proofs.Verdicts.{both, neither, first-assoc, bytes-none, bytes-stop}
 use Rattle.access.specs.Runs.{second, twoTests, linesAt}

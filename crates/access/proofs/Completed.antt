@@ -1,14 +1,13 @@
 -- An access that the table lets pass: what is known of it, that its runs fit, and that recording two units records them all.
 -- Assumes nothing.
-use Prim.Native.Nat.{ℕ, _+_, _-_, _/_, _%_, _<_, _≤_}
+use Prim.Native.Nat.{ℕ, _+_, _-_, _<_, _≤_}
 use mathlib.Core.Path.{_≡_, refl, sym, ap, _∙_}
-use mathlib.Core.Bool.{Bool, true, false, not, _&&_}
 use mathlib.Core.Logic.{_≢_}
 use mathlib.Core.List.{List}
 use native.Mathlib.Omega.{arith}
 use native.Mathlib.Decide.{ℕ-discrete, decLt}
 use native.Mathlib.Nat.{le-refl, pos-of-ne-zero}
-use lib.Dec.{leb, ltb}
+use lib.Dec.{leb}
 use lib.ListN.{length, getD, set, length-set}
 use lib.Seq.{getD-set-same, getD-set-other, ext-getD}
 use borrow.Author.Tests.{not-false, ltb-false, leb-false, eqb-true, eqb-false, lt-ltb}
@@ -23,7 +22,7 @@ use Rattle.machine.specs.declared.Reason.the-variants.{Addressing, AbsoluteAddr
 use Rattle.machine.specs.declared.Verdict.the-variants.{Clear, Stop}
 use Rattle.machine.specs.declared.Answer.the-variants.{Completed, Refused}
 use Rattle.machine.specs.Numbers.{own, unitOf, add24, written}
-use Rattle.machine.specs.Answers.{line, firstOf, firstLine}
+use Rattle.machine.specs.Answers.{firstLine}
 use Rattle.machine.specs.Prefixing.{byteAt}
 use Rattle.machine.specs.Protection.{recorded}
 use Rattle.machine.specs.Table.{absoluteOutside, addressing, absoluteAddressing, plan, verdict}

@@ -1,7 +1,7 @@
 -- Runs: bytes f to i of an access lie in one unit. Their real and absolute addresses are then consecutive, and their unit is one.
 -- Everything is said over the unit size; that 2,048 and 4,096 both divide 4,096 is used in three lines at the top.
 -- Assumes nothing.
-use Prim.Native.Nat.{ℕ, _+_, _-_, _*_, _/_, _%_, _<_, _≤_, min}
+use Prim.Native.Nat.{ℕ, _+_, _-_, _*_, _/_, _%_, _<_, _≤_}
 use mathlib.Core.Path.{_≡_, refl, sym, ap, _∙_}
 use mathlib.Core.Bool.{Bool, true, false, cond}
 use native.Mathlib.Omega.{arith}
@@ -11,7 +11,7 @@ use lib.Dec.{eqb}
 use Rattle.machine.specs.declared.Settings.{Settings}
 use Rattle.machine.specs.declared.Processor.{Processor}
 use Rattle.machine.specs.Numbers.{unitSize, unitOf, add24}
-use Rattle.machine.specs.Prefixing.{block, absolute, byteAt}
+use Rattle.machine.specs.Prefixing.{blockNumber, absolute, byteAt}
 use Rattle.access.specs.Runs.{left, second}
 
 -- a step d from x that does not leave the multiple of u below it
@@ -56,10 +56,10 @@ inside false x d h = omega arith
 absolute-step : (prefix x d : ℕ) → x % 4096 + d < 4096 → absolute prefix (x + d) ≡ absolute prefix x + d
 unfolding absolute
 absolute-step prefix x d h =
-    rw (same-quotient 4096 x d h, same-remainder 4096 x d h) (cases (eqb (block x) 0) (eqb (block x) (block prefix)))
+    rw (same-quotient 4096 x d h, same-remainder 4096 x d h) (cases (eqb (blockNumber x) 0) (eqb (blockNumber x) (blockNumber prefix)))
   where
     cases : (a b : Bool) →
-        cond a (block prefix * 4096 + (x % 4096 + d)) (cond b (x % 4096 + d) (x + d)) ≡ cond a (block prefix * 4096 + x % 4096) (cond b (x % 4096) x) + d
+        cond a (blockNumber prefix * 4096 + (x % 4096 + d)) (cond b (x % 4096 + d) (x + d)) ≡ cond a (blockNumber prefix * 4096 + x % 4096) (cond b (x % 4096) x) + d
     cases true b = omega arith
     cases false true = refl
     cases false false = refl
@@ -67,9 +67,9 @@ absolute-step prefix x d h =
 -- prefixing keeps the place in the block
 absolute-place : (prefix x : ℕ) → absolute prefix x % 4096 ≡ x % 4096
 unfolding absolute
-absolute-place prefix x = cases (eqb (block x) 0) (eqb (block x) (block prefix))
+absolute-place prefix x = cases (eqb (blockNumber x) 0) (eqb (blockNumber x) (blockNumber prefix))
   where
-    cases : (a b : Bool) → cond a (block prefix * 4096 + x % 4096) (cond b (x % 4096) x) % 4096 ≡ x % 4096
+    cases : (a b : Bool) → cond a (blockNumber prefix * 4096 + x % 4096) (cond b (x % 4096) x) % 4096 ≡ x % 4096
     cases true b = omega arith
     cases false true = omega arith
     cases false false = refl

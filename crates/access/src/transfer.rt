@@ -7,7 +7,7 @@ use machine::Processor;
 use machine::Settings;
 use prefixing::add24;
 use storage_key::recorded;
-ghost use Prim.Native.Nat.{ℕ, _+_, _≤_, _<_};
+ghost use Prim.Native.Nat.{_+_, _≤_, _<_};
 ghost use mathlib.Core.Path.{_≡_};
 ghost use lib.ListN.{getD, length};
 ghost use Rattle.machine.specs.Numbers.{unitOf, written};

@@ -20,7 +20,6 @@ use Rattle.machine.specs.declared.Verdict.{Verdict}
 use Rattle.machine.specs.declared.Verdict.the-variants.{Clear}
 use Rattle.machine.specs.Numbers.{own, unitOf, add24, written}
 use Rattle.machine.specs.Key.{accessControl, fetchProtection}
-use Rattle.machine.specs.Answers.{numberOf}
 use Rattle.machine.specs.Prefixing.{byteAt}
 use Rattle.machine.specs.Protection.{matches, permitted, lowProtected, forbidden, recorded}
 use Rattle.machine.specs.Table.{protection, plan, verdict}
@@ -88,7 +87,7 @@ module _ (s : Settings) (storage keys : List ℕ) (ps : List Processor) (n start
   AllAllowed kind = (i : ℕ) → i < count → Allowed kind p (add24 start i) (getD keys (unit i) 0)
 
   -- an access that the lines from 64 to 67 let pass completes exactly when each of its bytes is allowed
-  pub access-completes : (kind : AccessKind) → planned kind ≡ Clear → (numberOf (after kind .answer) ≡ 0) ↔ AllAllowed kind
+  pub access-completes : (kind : AccessKind) → planned kind ≡ Clear → (after kind .answer .number ≡ 0) ↔ AllAllowed kind
   unfolding verdict protection
   access-completes kind clear = Iff·trans (completed-by-table s storage keys ps n (Access kind start count) buffer) (to, from)
     where
@@ -102,26 +101,26 @@ module _ (s : Settings) (storage keys : List ℕ) (ps : List Processor) (n start
 
   -- a store completes exactly when low-address protection forbids none of its bytes and its access key matches the key of every unit touched
   pub store-completes : planned Store ≡ Clear
-      → (numberOf (after Store .answer) ≡ 0)
+      → (after Store .answer .number ≡ 0)
       ↔ ((i : ℕ) → i < count → (p .«low_protection» ≡ true → 512 ≤ add24 start i) × ((p .key ≡ 0) ⊎ (p .key ≡ accessControl (getD keys (unit i) 0))))
   store-completes = access-completes Store
 
   -- a fetch, exactly when for every unit touched its access key matches the key or the fetch-protection bit is zero
   pub fetch-completes : planned Fetch ≡ Clear
-      → (numberOf (after Fetch .answer) ≡ 0)
+      → (after Fetch .answer .number ≡ 0)
       ↔ ((i : ℕ) → i < count → ((p .key ≡ 0) ⊎ (p .key ≡ accessControl (getD keys (unit i) 0))) ⊎ (fetchProtection (getD keys (unit i) 0) ≡ 0))
   fetch-completes = access-completes Fetch
 
-  passed : (kind : AccessKind) → numberOf (after kind .answer) ≡ 0 → Passed s (length storage) (length keys) p start count (length buffer)
+  passed : (kind : AccessKind) → after kind .answer .number ≡ 0 → Passed s (length storage) (length keys) p start count (length buffer)
   passed kind h =
       access-passed s (length storage) (length keys) n p kind start count (length buffer) (completed-plan s storage keys ps n (Access kind start count) buffer h)
 
-  left : (kind : AccessKind) → numberOf (after kind .answer) ≡ 0 → after kind ≡ completed s storage keys ps n p (Access kind start count) buffer
+  left : (kind : AccessKind) → after kind .answer .number ≡ 0 → after kind ≡ completed s storage keys ps n p (Access kind start count) buffer
   left kind h = completed-step s storage keys ps n (Access kind start count) buffer h
 
   -- the key of every unit touched by a completed access: reference bit one, bit 7 zero, access control and fetch protection as before;
   -- the change bit is one after a store and as before after a fetch
-  pub access-records : (kind : AccessKind) → numberOf (after kind .answer) ≡ 0 → (i : ℕ) → i < count
+  pub access-records : (kind : AccessKind) → after kind .answer .number ≡ 0 → (i : ℕ) → i < count
       → Recorded kind (getD keys (unit i) 0) (getD (after kind .keys) (unit i) 0)
   unfolding completed keysRecorded
   access-records kind h i l = rw (left kind h, there) (key-recorded kind (getD keys (unit i) 0))
@@ -139,7 +138,7 @@ module _ (s : Settings) (storage keys : List ℕ) (ps : List Processor) (n start
       (written-elsewhere keys unit _ count u apart)
 
   -- a completed store leaves byte i of its buffer at the address of its byte i
-  pub store-writes : numberOf (after Store .answer) ≡ 0 → (i : ℕ) → i < count → getD (after Store .storage) (byteAt p start i) 0 ≡ getD buffer i 0
+  pub store-writes : after Store .answer .number ≡ 0 → (i : ℕ) → i < count → getD (after Store .storage) (byteAt p start i) 0 ≡ getD buffer i 0
   unfolding completed storageLeft
   store-writes h i l = rw (left Store h) (written-there storage (byteAt p start) (λ j. getD buffer j 0) count i l (passed Store h .byte-inside i l) same)
     where
@@ -154,7 +153,7 @@ module _ (s : Settings) (storage keys : List ℕ) (ps : List Processor) (n start
       (written-elsewhere storage (byteAt p start) _ count a apart)
 
   -- a completed fetch leaves in byte i of its buffer the byte at the address of its byte i
-  pub fetch-reads : numberOf (after Fetch .answer) ≡ 0 → (i : ℕ) → i < count → getD (after Fetch .buffer) i 0 ≡ getD storage (byteAt p start i) 0
+  pub fetch-reads : after Fetch .answer .number ≡ 0 → (i : ℕ) → i < count → getD (after Fetch .buffer) i 0 ≡ getD storage (byteAt p start i) 0
   unfolding completed bufferLeft
   fetch-reads h i l =
       rw (left Fetch h)

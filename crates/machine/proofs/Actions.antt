@@ -1,10 +1,10 @@
 -- Two lists of actions on one state, in any order of turns. A state has parts, and an action treats each part in a mode. Two actions whose
 -- modes are apart at every part commute, so an action passes a whole list, and every order ends like the first list and then the second.
 -- Assumes nothing.
-use mathlib.Core.Path.{_≡_, refl, sym, ap, _∙_, subst}
+use mathlib.Core.Path.{_≡_, refl, sym, ap, _∙_}
 use mathlib.Core.Bool.{Bool, true, false, cond}
 use mathlib.Core.List.{List, [], _∷_}
-use Rattle.machine.specs.Turns.{Order, done, first, second, End, run, Every}
+use Rattle.machine.specs.Turns.{Order, done, first, second, run, Every}
 
 -- how an action treats a part: not at all; it fetches it, and completes that or not; or it does anything else with it
 pub data Mode : Type 0 where

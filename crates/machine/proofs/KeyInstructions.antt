@@ -16,7 +16,7 @@ use Rattle.machine.specs.declared.KeyInstruction.the-variants.{Isk, Ssk,
 use Rattle.machine.specs.declared.Request.the-variants.{Key}
 use Rattle.machine.specs.declared.Verdict.the-variants.{Clear}
 use Rattle.machine.specs.Numbers.{unitSize, unitOf}
-use Rattle.machine.specs.Prefixing.{block, absolute}
+use Rattle.machine.specs.Prefixing.{blockNumber, absolute}
 use Rattle.machine.specs.KeyInstructions.{extended, designated, twoKeys, keyCount}
 use Rattle.machine.specs.Table.{addressing, plan}
 use Rattle.machine.specs.Step.{firstUnit}
@@ -43,27 +43,27 @@ module _ (s : Settings) (p : Processor) (i : KeyInstruction) where
   at-block e = prefixing-keeps-offset (p .prefix) (designated i) ∙ designated-block i e
 
   -- an extended instruction names exactly the units of its 4K block: its one key or its two
-  pub extended-names-block : extended i ≡ true → (a : ℕ) → (names Clear s p (Key i) (unitOf s a) ≡ true) ↔ (block a ≡ block at)
+  pub extended-names-block : extended i ≡ true → (a : ℕ) → (names Clear s p (Key i) (unitOf s a) ≡ true) ↔ (blockNumber a ≡ blockNumber at)
   unfolding names
   extended-names-block e a = (to, from)
     where
       count : keyCount (twoKeys s i) ≡ keysOfBlock s
       count = rw e
 
-      first : firstUnit s p i ≡ block at * keysOfBlock s
+      first : firstUnit s p i ≡ blockNumber at * keysOfBlock s
       first = unit-in-block s at ∙ rw (at-block e, zero-div) (omega arith)
 
       test : ℕ → Bool
       test j = eqb (firstUnit s p i + j) (unitOf s a)
 
-      to : names Clear s p (Key i) (unitOf s a) ≡ true → block a ≡ block at
+      to : names Clear s p (Key i) (unitOf s a) ≡ true → blockNumber a ≡ blockNumber at
       to h =
           let found = some-found test (keyCount (twoKeys s i)) h in
-          let unit : unitOf s a ≡ block at * keysOfBlock s + found .0 = omega (arith, eqb-true (firstUnit s p i + found .0) (unitOf s a) (found .2), first) in
+          let unit : unitOf s a ≡ blockNumber at * keysOfBlock s + found .0 = omega (arith, eqb-true (firstUnit s p i + found .0) (unitOf s a) (found .2), first) in
           let small : found .0 < keysOfBlock s = omega (arith, count, found .1) in
-          rw (block-of-unit s a, unit, mul-add-div-right {m = keysOfBlock s} (omega arith) (block at) (found .0), div-eq-of-lt small) (omega arith)
+          rw (block-of-unit s a, unit, mul-add-div-right {m = keysOfBlock s} (omega arith) (blockNumber at) (found .0), div-eq-of-lt small) (omega arith)
 
-      from : block a ≡ block at → names Clear s p (Key i) (unitOf s a) ≡ true
+      from : blockNumber a ≡ blockNumber at → names Clear s p (Key i) (unitOf s a) ≡ true
       from h =
           some-at test (keyCount (twoKeys s i)) (a % 4096 / unitSize s) (rw count (place-in-block s a))
           (eq-eqb (firstUnit s p i + a % 4096 / unitSize s) (unitOf s a) (omega (arith, first, unit-in-block s a, ap (λ b. b * keysOfBlock s) h)))

@@ -1,35 +1,24 @@
 -- What a request leaves at a place. Where it names no unit nothing changes; and what is left of a byte, a key or a record depends on that
 -- byte, key or record and on the keys of the units named, in no other way on storage, keys and records. Assumes nothing.
-use Prim.Native.Nat.{ℕ, zero, suc, _+_, _<_, _≤_}
-use mathlib.Core.Path.{_≡_, refl, sym, ap, subst, _∙_}
-use mathlib.Core.Bool.{Bool, true, false, cond}
+use Prim.Native.Nat.{ℕ, zero, suc, _+_, _<_}
+use mathlib.Core.Path.{_≡_, refl, sym, ap, _∙_}
+use mathlib.Core.Bool.{Bool, true, false}
 use mathlib.Core.Logic.{_≢_, ⊎-elim}
 use mathlib.Core.List.{List}
 use native.Mathlib.Nat.{add-zero}
 use native.Mathlib.Decide.{ℕ-discrete}
 use native.Mathlib.Omega.{arith}
-use lib.ListN.{length, getD, set, length-set}
+use lib.ListN.{length, getD, set}
 use lib.Seq.{getD-set-same, getD-set-other, set-out}
-use lib.Dec.{eqb, ltb}
-use borrow.Author.Tests.{ltb-true, ltb-false, eqb-true, eqb-false, eq-eqb}
-use Rattle.machine.specs.declared.Settings.{Settings}
-use Rattle.machine.specs.declared.Processor.{Processor}
-use Rattle.machine.specs.declared.Request.{Request}
-use Rattle.machine.specs.declared.Request.the-variants.{Access, Key, Prefix}
-use Rattle.machine.specs.declared.AccessKind.the-variants.{Fetch, Store}
+use lib.Dec.{ltb}
+use borrow.Author.Tests.{ltb-true, ltb-false}
 use Rattle.machine.specs.declared.KeyOperation.{KeyOperation}
 use Rattle.machine.specs.declared.KeyOperation.the-variants.{Insert, Set, Reset}
-use Rattle.machine.specs.declared.Verdict.the-variants.{Clear}
-use Rattle.machine.specs.Numbers.{own, unitOf, written}
-use Rattle.machine.specs.Key.{afterFetch, afterReset}
-use Rattle.machine.specs.Prefixing.{byteAt}
-use Rattle.machine.specs.Protection.{recorded}
+use Rattle.machine.specs.Numbers.{written}
+use Rattle.machine.specs.Key.{afterReset}
 use Rattle.machine.specs.KeyInstructions.{keyCount, wordGiven, keysLeft, codeLeft}
-use Rattle.machine.specs.Step.{Outcome, storageLeft, keysRecorded, firstUnit, completed}
-use Rattle.machine.specs.Units.{unitAt, unitCount, names}
-use Rattle.machine.specs.Turns.{State}
 use Rattle.machine.proofs.Written.{length-written, Last, none, last, last-write}
-use Rattle.machine.proofs.Verdicts.{tested, some-at, some-none, some-found}
+use Rattle.machine.proofs.Verdicts.{tested}
 
 -- a write at i, and what two lists that are alike at j have there afterwards
 pub set-alike : {A : Type 0} (xs ys : List A) (i j : ℕ) (v w d : A) → length xs ≡ length ys → getD xs j d ≡ getD ys j d → (i ≡ j → v ≡ w) → getD (set xs i v) j d ≡ getD (set ys i w) j d

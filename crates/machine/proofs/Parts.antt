@@ -1,17 +1,16 @@
 -- The step as an action on the parts of the state: each byte of storage, each key, each record, and the lengths. A request treats a byte
 -- and a key as it treats the unit, its own record it writes, and at the lengths it looks. The laws of actions hold of the step.
 -- Assumes nothing.
-use Prim.Native.Nat.{ℕ, zero, suc, _+_, _<_, _≤_}
+use Prim.Native.Nat.{ℕ, _<_}
 use mathlib.Core.Path.{_≡_, refl, sym, ap, subst, _∙_}
 use mathlib.Core.Bool.{Bool, true, false, cond, _&&_}
 use mathlib.Core.Logic.{_≢_, ⊎-elim}
 use mathlib.Core.List.{List}
-use native.Mathlib.Decide.{ℕ-discrete}
 use native.Mathlib.Omega.{arith}
-use lib.ListN.{length, getD, set, length-set}
+use lib.ListN.{length, getD, length-set}
 use lib.Seq.{ext-getD, getD-set-other}
 use lib.Dec.{eqb, ltb}
-use borrow.Author.Tests.{ltb-true, ltb-false, eqb-true, eqb-false, eq-eqb, lt-ltb}
+use borrow.Author.Tests.{ltb-true, eqb-true, eqb-false, eq-eqb, lt-ltb}
 use Rattle.machine.specs.declared.Settings.{Settings}
 use Rattle.machine.specs.declared.Processor.{Processor}
 use Rattle.machine.specs.declared.Request.{Request}
@@ -27,9 +26,9 @@ use Rattle.machine.specs.Key.{keyByte, accessControl, fetchProtection, c
 use Rattle.machine.specs.Prefixing.{byteAt}
 use Rattle.machine.specs.Protection.{permitted, forbidden, recorded}
 use Rattle.machine.specs.KeyInstructions.{operation, twoKeys}
-use Rattle.machine.specs.Answers.{firstOf}
+use Rattle.machine.specs.Answers.{values, firstOf}
 use Rattle.machine.specs.Table.{protection, plan, verdict}
-use Rattle.machine.specs.Step.{Outcome, withCode, storageLeft, bufferLeft, keysRecorded, firstUnit, prefixLeft, completed, performed, step}
+use Rattle.machine.specs.Step.{Outcome, withCode, storageLeft, bufferLeft, keysRecorded, firstUnit, completed, performed, step}
 use Rattle.machine.specs.Units.{unitAt, unitCount, names}
 use Rattle.machine.specs.Turns.{State, Turn, Given, next, given, named}
 use Rattle.machine.proofs.Actions.{Mode, none, fetch, write, Alike, Leaves, Laws}
@@ -225,7 +224,7 @@ module _ (s : Settings) (n : ℕ) (p : Processor) (buffer : List ℕ) where
         (refl, written-same buffer (λ i. i) _ _ count (λ i h. b _ (named-at s p (Access Fetch start count) i h)))
     given-alike (Access Store start count) k b = (refl, refl)
     given-alike (Key j) k b =
-        (ap Completed (same-word (firstUnit s p j) (twoKeys s j) (m .keys) (o .keys) (λ c h. k _ (named-at s p (Key j) c h)) (operation j)), refl)
+        (ap (λ w. values (Completed w)) (same-word (firstUnit s p j) (twoKeys s j) (m .keys) (o .keys) (λ c h. k _ (named-at s p (Key j) c h)) (operation j)), refl)
     given-alike (Prefix j) k b = (refl, refl)
 
 -- The step, by its verdict.

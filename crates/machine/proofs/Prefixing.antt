@@ -10,18 +10,18 @@ use lib.Dec.{eqb}
 use borrow.Author.Tests.{eq-eqb, ne-eqb}
 use Rattle.machine.specs.declared.Processor.{Processor}
 use Rattle.machine.specs.Numbers.{add24}
-use Rattle.machine.specs.Prefixing.{block, absolute, byteAt}
+use Rattle.machine.specs.Prefixing.{blockNumber, absolute, byteAt}
 
 data Prefixed (prefix real : ℕ) : Type 0 where
-  first : block real ≡ 0 → absolute prefix real ≡ block prefix * 4096 + real % 4096 → Prefixed prefix real
-  own : block real ≢ 0 → block real ≡ block prefix → absolute prefix real ≡ real % 4096 → Prefixed prefix real
-  other : block real ≢ 0 → block real ≢ block prefix → absolute prefix real ≡ real → Prefixed prefix real
+  first : blockNumber real ≡ 0 → absolute prefix real ≡ blockNumber prefix * 4096 + real % 4096 → Prefixed prefix real
+  own : blockNumber real ≢ 0 → blockNumber real ≡ blockNumber prefix → absolute prefix real ≡ real % 4096 → Prefixed prefix real
+  other : blockNumber real ≢ 0 → blockNumber real ≢ blockNumber prefix → absolute prefix real ≡ real → Prefixed prefix real
 
 prefixed : (prefix real : ℕ) → Prefixed prefix real
 unfolding absolute
-prefixed prefix real = go (ℕ-discrete (block real) 0) (ℕ-discrete (block real) (block prefix))
+prefixed prefix real = go (ℕ-discrete (blockNumber real) 0) (ℕ-discrete (blockNumber real) (blockNumber prefix))
   where
-    go : Dec (block real ≡ 0) → Dec (block real ≡ block prefix) → Prefixed prefix real
+    go : Dec (blockNumber real ≡ 0) → Dec (blockNumber real ≡ blockNumber prefix) → Prefixed prefix real
     go (yes z) d = first z (rw (eq-eqb _ _ z))
     go (no z) (yes e) = own z e (rw (ne-eqb _ _ z, eq-eqb _ _ e))
     go (no z) (no e) = other z e (rw (ne-eqb _ _ z, ne-eqb _ _ e))
@@ -55,11 +55,11 @@ prefixing-keeps-offset prefix real = go (prefixed prefix real)
     go (other z e a) = omega arith
 
 -- blocks go to blocks: the absolute block depends on the real block alone
-pub prefixing-maps-blocks : (prefix a b : ℕ) → block a ≡ block b → block (absolute prefix a) ≡ block (absolute prefix b)
+pub prefixing-maps-blocks : (prefix a b : ℕ) → blockNumber a ≡ blockNumber b → blockNumber (absolute prefix a) ≡ blockNumber (absolute prefix b)
 unfolding absolute
-prefixing-maps-blocks prefix a b e = rw e (go (eqb (block b) 0) (eqb (block b) (block prefix)))
+prefixing-maps-blocks prefix a b e = rw e (go (eqb (blockNumber b) 0) (eqb (blockNumber b) (blockNumber prefix)))
   where
-    go : (x y : Bool) → block (cond x (block prefix * 4096 + a % 4096) (cond y (a % 4096) a)) ≡ block (cond x (block prefix * 4096 + b % 4096) (cond y (b % 4096) b))
+    go : (x y : Bool) → blockNumber (cond x (blockNumber prefix * 4096 + a % 4096) (cond y (a % 4096) a)) ≡ blockNumber (cond x (blockNumber prefix * 4096 + b % 4096) (cond y (b % 4096) b))
     go true y = omega arith
     go false true = omega arith
     go false false = e

@@ -7,6 +7,7 @@ use mathlib.Core.Bool.{Bool, true, false, cond, not}
 use mathlib.Core.Logic.{_≢_, _↔_}
 use mathlib.Core.List.{List}
 use native.Mathlib.Decide.{decLt}
+use lib.Dec.{eqb}
 use native.Mathlib.Omega.{arith}
 use lib.ListN.{length, set, length-set}
 use lib.Seq.{set-out, getD-set-same, getD-set-other}
@@ -20,12 +21,11 @@ use Rattle.machine.specs.declared.Request.{Request}
 use Rattle.machine.specs.declared.Request.the-variants.{Access, Key, Prefix}
 use Rattle.machine.specs.declared.Reason.{Reason}
 use Rattle.machine.specs.declared.Reason.the-variants.{Configuration, Record, Operand, Operation, Privileged, SpecialOperation, Specification, Addressing, AbsoluteAddress, Protection}
-use Rattle.machine.specs.declared.Answer.{Answer}
 use Rattle.machine.specs.declared.Answer.the-variants.{Refused}
 use Rattle.machine.specs.declared.Verdict.{Verdict}
 use Rattle.machine.specs.declared.Verdict.the-variants.{Clear, Stop}
 use Rattle.machine.specs.Numbers.{own, lengthsValid}
-use Rattle.machine.specs.Answers.{number, numberOf, line, firstOf, firstLine}
+use Rattle.machine.specs.Answers.{number, Values, values, line, firstOf, firstLine}
 use Rattle.machine.specs.KeyInstructions.{operation, keyCount, keysLeft}
 use Rattle.machine.specs.Table.{protection, plan, verdict}
 use Rattle.machine.specs.Step.{Outcome, storageLeft, bufferLeft, keysRecorded, completed, performed, step}
@@ -45,6 +45,36 @@ refusal-number Specification = omega arith
 refusal-number Addressing = omega arith
 refusal-number AbsoluteAddress = omega arith
 refusal-number Protection = omega arith
+
+-- the number tells the reason
+reasonOf : ℕ → Reason
+reasonOf n =
+    cond (eqb n 64) Configuration
+    (cond (eqb n 65) Record
+    (cond (eqb n 66) Operand
+    (cond (eqb n 1) Operation
+    (cond (eqb n 2) Privileged
+    (cond (eqb n 19) SpecialOperation
+    (cond (eqb n 6) Specification
+    (cond (eqb n 5) Addressing
+    (cond (eqb n 67) AbsoluteAddress
+    (Protection)))))))))
+
+reason-of-number : (r : Reason) → reasonOf (number r) ≡ r
+unfolding reasonOf
+reason-of-number Configuration = refl
+reason-of-number Record = refl
+reason-of-number Operand = refl
+reason-of-number Operation = refl
+reason-of-number Privileged = refl
+reason-of-number SpecialOperation = refl
+reason-of-number Specification = refl
+reason-of-number Addressing = refl
+reason-of-number AbsoluteAddress = refl
+reason-of-number Protection = refl
+
+number-injective : (a b : Reason) → number a ≡ number b → a ≡ b
+number-injective a b e = sym (reason-of-number a) ∙ ap reasonOf e ∙ reason-of-number b
 
 length-keys-left : (keys : List ℕ) (u : ℕ) (two : Bool) (o : KeyOperation) → length (keysLeft keys u two o) ≡ length keys
 unfolding keysLeft
@@ -67,7 +97,7 @@ module _ (s : Settings) (storage keys : List ℕ) (ps : List Processor) (n : ℕ
   table = verdict s (length storage) keys n (own ps n) r (length buffer)
 
   -- what is left where nothing changes
-  abbrev unchanged : Answer → Outcome
+  abbrev unchanged : Values → Outcome
   unchanged answer = record { answer = answer; storage = storage; keys = keys; processors = ps; buffer = buffer }
 
   abbrev SameLengths : Outcome → Type 0
@@ -76,7 +106,7 @@ module _ (s : Settings) (storage keys : List ℕ) (ps : List Processor) (n : ℕ
 
   -- what holds of a refusal by the verdict, and of the completed request where the verdict is clear, holds of the step
   pub by-verdict : (P : Outcome → Type 0)
-      → ((reason : Reason) (place : ℕ) → table ≡ Stop reason place → P (unchanged (Refused reason place)))
+      → ((reason : Reason) (place : ℕ) → table ≡ Stop reason place → P (unchanged (values (Refused reason place))))
       → (table ≡ Clear → P (completed s storage keys ps n (own ps n) r buffer))
       → P after
   unfolding step performed
@@ -86,46 +116,47 @@ module _ (s : Settings) (storage keys : List ℕ) (ps : List Processor) (n : ℕ
       go Clear e = done e
       go (Stop reason place) e = refused reason place e
 
-  pub either-way : (P : Outcome → Type 0) → ((answer : Answer) → P (unchanged answer)) → P (completed s storage keys ps n (own ps n) r buffer) → P after
-  either-way P refused done = by-verdict P (λ reason place e. refused (Refused reason place)) (λ e. done)
+  pub either-way : (P : Outcome → Type 0) → ((answer : Values) → P (unchanged answer)) → P (completed s storage keys ps n (own ps n) r buffer) → P after
+  either-way P refused done = by-verdict P (λ reason place e. refused (values (Refused reason place))) (λ e. done)
 
   -- a request that completes has the number 0
-  completed-number : (r : Request) → numberOf (completed s storage keys ps n (own ps n) r buffer .answer) ≡ 0
+  completed-number : (r : Request) → completed s storage keys ps n (own ps n) r buffer .answer .number ≡ 0
   unfolding completed
   completed-number (Access kind start count) = refl
   completed-number (Key i) = refl
   completed-number (Prefix i) = refl
 
   -- with any number but 0 nothing lent and neither record changes
-  pub refused-changes-nothing : numberOf (after .answer) ≢ 0 → after ≡ unchanged (after .answer)
+  pub refused-changes-nothing : after .answer .number ≢ 0 → after ≡ unchanged (after .answer)
   refused-changes-nothing =
-      by-verdict (λ o. numberOf (o .answer) ≢ 0 → o ≡ unchanged (o .answer)) (λ reason place e h. refl) (λ e h. absurd (h (completed-number r)))
+      by-verdict (λ o. o .answer .number ≢ 0 → o ≡ unchanged (o .answer)) (λ reason place e h. refl) (λ e h. absurd (h (completed-number r)))
 
   -- the number is 0 exactly when no line of the table applies
-  pub completed-by-table : (numberOf (after .answer) ≡ 0) ↔ (table ≡ Clear)
+  pub completed-by-table : (after .answer .number ≡ 0) ↔ (table ≡ Clear)
   completed-by-table =
-      by-verdict (λ o. (numberOf (o .answer) ≡ 0) ↔ (table ≡ Clear))
+      by-verdict (λ o. (o .answer .number ≡ 0) ↔ (table ≡ Clear))
       (λ reason place e. (λ h. absurd (refusal-number reason h), λ c. absurd (not-clear e c))) (λ e. (λ h. e, λ c. completed-number r))
 
   -- a request is refused with the reason and the place of the first line that applies
-  pub refused-by-table : (reason : Reason) (place : ℕ) → (after .answer ≡ Refused reason place) ↔ (table ≡ Stop reason place)
+  pub refused-by-table : (reason : Reason) (place : ℕ) → (after .answer ≡ values (Refused reason place)) ↔ (table ≡ Stop reason place)
   refused-by-table reason place =
-      by-verdict (λ o. (o .answer ≡ Refused reason place) ↔ (table ≡ Stop reason place)) (λ q l e. ((λ h. cc), (λ h. cc)))
-      (λ e. (λ h. absurd (refusal-number reason (sym (ap numberOf h) ∙ completed-number r)), λ h. absurd (not-clear h e)))
+      by-verdict (λ o. (o .answer ≡ values (Refused reason place)) ↔ (table ≡ Stop reason place))
+      (λ q l e. ((λ h. rw (← number-injective q reason (ap (λ v. v .number) h), ← ap (λ v. v .place) h) e), (λ h. cc)))
+      (λ e. (λ h. absurd (refusal-number reason (sym (ap (λ v. v .number) h) ∙ completed-number r)), λ h. absurd (not-clear h e)))
 
   -- no request is refused by line 67
-  pub never-67 : numberOf (after .answer) ≢ 67
+  pub never-67 : after .answer .number ≢ 67
   never-67 =
-      by-verdict (λ o. numberOf (o .answer) ≢ 67) (λ reason place e. rw e at (table-never-67 s (length storage) keys n (own ps n) r (length buffer)))
+      by-verdict (λ o. o .answer .number ≢ 67) (λ reason place e. rw e at (table-never-67 s (length storage) keys n (own ps n) r (length buffer)))
       (λ e. rw (completed-number r) (omega arith))
 
   -- what a completed request leaves, and that its plan is clear
-  pub completed-step : numberOf (after .answer) ≡ 0 → after ≡ completed s storage keys ps n (own ps n) r buffer
+  pub completed-step : after .answer .number ≡ 0 → after ≡ completed s storage keys ps n (own ps n) r buffer
   completed-step =
-      by-verdict (λ o. numberOf (o .answer) ≡ 0 → o ≡ completed s storage keys ps n (own ps n) r buffer)
+      by-verdict (λ o. o .answer .number ≡ 0 → o ≡ completed s storage keys ps n (own ps n) r buffer)
       (λ reason place e h. absurd (refusal-number reason h)) (λ e h. refl)
 
-  pub completed-plan : numberOf (after .answer) ≡ 0 → plan s (length storage) (length keys) n (own ps n) r (length buffer) ≡ Clear
+  pub completed-plan : after .answer .number ≡ 0 → plan s (length storage) (length keys) n (own ps n) r (length buffer) ≡ Clear
   unfolding verdict
   completed-plan h = first-clear _ _ (completed-by-table .0 h) .0
 
@@ -169,12 +200,12 @@ module _ (s : Settings) (storage keys : List ℕ) (ps : List Processor) (n : ℕ
       go Clear = subst (λ p. Alike n (completed s storage keys ps n p r buffer) (completed s storage keys qs n (own qs n) r buffer)) (sym e) (done (own qs n) r)
 
   -- a number that is not 0 or 1 is refused, no record is looked at and nothing changes
-  pub other-number-refused : 2 ≤ n → after ≡ unchanged (cond (lengthsValid s (length storage) (length keys)) (Refused Record 0) (Refused Configuration 0))
+  pub other-number-refused : 2 ≤ n → after ≡ unchanged (values (cond (lengthsValid s (length storage) (length keys)) (Refused Record 0) (Refused Configuration 0)))
   unfolding step performed verdict plan line firstLine firstOf
   other-number-refused h = rw (le-ltb n 2 h) (go (lengthsValid s (length storage) (length keys)))
     where
       go : (b : Bool)
           → performed (firstOf (firstOf (line Configuration (not b)) (Stop Record 0)) (protection s keys (own ps n) r)) s storage keys ps n r buffer
-          ≡ unchanged (cond b (Refused Record 0) (Refused Configuration 0))
+          ≡ unchanged (values (cond b (Refused Record 0) (Refused Configuration 0)))
       go true = refl
       go false = refl

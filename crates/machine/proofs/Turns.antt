@@ -1,24 +1,22 @@
 -- Condition 3: any two orders of turns end alike and give back the same. The units and the numbers that the two lists' requests have keep
 -- their modes apart at every part; the law of actions does the rest. Assumes nothing.
-use Prim.Native.Nat.{ℕ, _≤_}
-use mathlib.Core.Path.{_≡_, refl, sym, ap, subst, _∙_}
+use Prim.Native.Nat.{ℕ}
+use mathlib.Core.Path.{_≡_, refl, _∙_}
 use mathlib.Core.Bool.{Bool, true, false, cond, _&&_, and-false}
-use mathlib.Core.Logic.{_≢_, _⊎_, inl, inr, ⊎-elim}
-use mathlib.Core.List.{List, [], _∷_}
+use mathlib.Core.Logic.{_≢_, _⊎_, ⊎-elim}
 use native.Mathlib.Omega.{arith}
 use lib.Dec.{eqb, ltb}
 use borrow.Author.Tests.{eqb-true, le-ltb}
 use native.Mathlib.Decide.{ℕ-discrete}
-use Rattle.machine.specs.declared.Settings.{Settings}
 use Rattle.machine.specs.declared.Request.{Request}
 use Rattle.machine.specs.declared.Request.the-variants.{Access, Key, Prefix}
 use Rattle.machine.specs.declared.AccessKind.the-variants.{Fetch, Store}
 use Rattle.machine.specs.declared.Verdict.{Verdict}
 use Rattle.machine.specs.declared.Verdict.the-variants.{Clear, Stop}
 use Rattle.machine.specs.Numbers.{unitOf}
-use Rattle.machine.specs.Turns.{Every, State, Turn, Carries, Unnamed, FetchesOnly, Apart, AnyOrder, next, named, isFetch}
+use Rattle.machine.specs.Turns.{Every, State, Turn, Carries, AnyOrder, next, named, isFetch}
 use Rattle.machine.proofs.Actions.{Mode, none, fetch, write, Free, only-first, only-second, fetches, every, AllFree, any-turns}
-use Rattle.machine.proofs.Parts.{Part, byte, key, processor, lengths, treats, unitMode, mode, laws}
+use Rattle.machine.proofs.Parts.{Part, byte, key, processor, lengths, treats, mode, laws}
 use Rattle.machine.proofs.Verdicts.{tested, not-both}
 
 -- a request that does not carry the number of processor i leaves its record alone

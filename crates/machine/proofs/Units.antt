@@ -10,7 +10,7 @@ use native.Mathlib.Omega.{arith}
 use Rattle.machine.specs.declared.Settings.{Settings}
 use Rattle.machine.specs.declared.Processor.{Processor}
 use Rattle.machine.specs.Numbers.{unitSize, unitOf, add24}
-use Rattle.machine.specs.Prefixing.{block, absolute, byteAt}
+use Rattle.machine.specs.Prefixing.{blockNumber, absolute, byteAt}
 use Rattle.machine.specs.KeyInstructions.{keyCount}
 use Rattle.machine.proofs.Prefixing.{prefixing-keeps-offset, prefixing-maps-blocks}
 
@@ -68,7 +68,7 @@ module _ (s : Settings) where
   positive = omega (arith, unit-holds-access s)
 
   -- the unit of an absolute address, by its block and its place in the block
-  pub unit-in-block : (x : ℕ) → unitOf s x ≡ block x * keysOfBlock s + x % 4096 / unitSize s
+  pub unit-in-block : (x : ℕ) → unitOf s x ≡ blockNumber x * keysOfBlock s + x % 4096 / unitSize s
   unit-in-block x = unit-by-place (unitSize s) positive 4096 (keysOfBlock s) x (units-of-block s)
 
   -- and that place is below the number of the block's keys
@@ -81,7 +81,7 @@ module _ (s : Settings) where
       let same = same-unit-same-place (unitSize s) positive 4096 (keysOfBlock s) a b (units-of-block s) h in
       rw (at a, at b, prefixing-maps-blocks prefix a b (same .0), same .1)
     where
-      at : (x : ℕ) → unitOf s (absolute prefix x) ≡ block (absolute prefix x) * keysOfBlock s + x % 4096 / unitSize s
+      at : (x : ℕ) → unitOf s (absolute prefix x) ≡ blockNumber (absolute prefix x) * keysOfBlock s + x % 4096 / unitSize s
       at x = unit-in-block (absolute prefix x) ∙ rw (prefixing-keeps-offset prefix x)
 
   -- addresses in one unit before they wrap are in one unit after it
@@ -104,10 +104,10 @@ module _ (s : Settings) where
   unit-inside storageLength address m h = div-lt-iff-lt-mul positive .1 (rw whole h)
     where
       whole : storageLength / unitSize s * unitSize s ≡ storageLength
-      whole = rw (unit-in-block storageLength, m, zero-div) (omega (arith, ap (λ n. block storageLength * n) (units-of-block s)))
+      whole = rw (unit-in-block storageLength, m, zero-div) (omega (arith, ap (λ n. blockNumber storageLength * n) (units-of-block s)))
 
   -- the block of an address, by its unit; and the unit that stands j after that of an address
-  pub block-of-unit : (x : ℕ) → block x ≡ unitOf s x / keysOfBlock s
+  pub block-of-unit : (x : ℕ) → blockNumber x ≡ unitOf s x / keysOfBlock s
   block-of-unit x = ap (λ n. x / n) (units-of-block s) ∙ sym (div-div-eq-div-mul x (unitSize s) (keysOfBlock s))
 
   pub unit-after : (x j : ℕ) → unitOf s (x + unitSize s * j) ≡ unitOf s x + j

@@ -1,13 +1,20 @@
--- The rules of the machine: document 01 as definitions, one module for each of its sections and in its order.
--- What an acceptor has to believe stands in this folder and nowhere else.
+-- Document 01 as definitions, in its order. Contracts cite them; the types are in src/lib.rt.
+-- The machine's numbers
 pub mod Numbers
 pub mod Key
+-- Numbers that come back, and their order (the table itself is below: it cites the sections between)
 pub mod Answers
+-- Real to absolute
 pub mod Prefixing
+-- Who may touch what
 pub mod Protection
+-- Key instructions
 pub mod KeyInstructions
+-- The table of answers, and one request with all that it leaves
 pub mod Table
 pub mod Step
+-- Lists and units named, for the third condition
 pub mod Units
 pub mod Turns
+-- Table of small facts
 pub mod SmallFacts

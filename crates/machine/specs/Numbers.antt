@@ -1,6 +1,6 @@
 -- The machine's numbers: lengths of storage and keys, the key unit, a processor's record, 24-bit addresses, writing a run of elements.
 use Prim.Native.Nat.{ℕ, zero, suc, _+_, _/_, _%_}
-use mathlib.Core.Bool.{Bool, true, false, cond, _&&_}
+use mathlib.Core.Bool.{Bool, false, cond, _&&_}
 use mathlib.Core.List.{List}
 use lib.ListN.{getD, set}
 use lib.Dec.{eqb, leb, ltb}
@@ -27,7 +27,7 @@ lengthsValid s storageLength keyLength = storageValid storageLength && eqb keyLe
 abbrev pub recordValid : ℕ → Processor → Bool
 recordValid storageLength p = leb (p .key) 15 && leb (p .code) 3 && eqb (p .prefix % 4096) 0 && ltb (p .prefix) storageLength
 
--- the record of processor n; of a number that is not 0 or 1 no rule looks at it
+-- the record of processor n. For a number that is not 0 or 1 it is a record of zeros, on which nothing depends: line 64 or 65 refuses
 abbrev pub own : List Processor → ℕ → Processor
 own ps n = getD ps n (record { key = 0; problem = false; «low_protection» = false; «key_control» = false; prefix = 0; code = 0 })
 
@@ -35,7 +35,7 @@ own ps n = getD ps n (record { key = 0; problem = false; «low_protection» = fa
 abbrev pub add24 : ℕ → ℕ → ℕ
 add24 a b = (a + b) % 16777216
 
--- xs with value i written at place i, for each i below n
+-- xs with value i written at place i for each i below n, in this order; a place outside xs is not written
 unfoldable pub written : List ℕ → (ℕ → ℕ) → (ℕ → ℕ) → ℕ → List ℕ
 written xs place value zero = xs
 written xs place value (suc n) = set (written xs place value n) (place n) (value n)

@@ -10,8 +10,8 @@ use Rattle.machine.specs.declared.Processor.{Processor}
 use Rattle.machine.specs.declared.Request.{Request}
 use Rattle.machine.specs.declared.Request.the-variants.{Access, Key, Prefix}
 use Rattle.machine.specs.declared.AccessKind.the-variants.{Fetch, Store}
-use Rattle.machine.specs.declared.Answer.{Answer}
 use Rattle.machine.specs.Numbers.{own}
+use Rattle.machine.specs.Answers.{Values}
 use Rattle.machine.specs.Table.{plan}
 use Rattle.machine.specs.Step.{Outcome, step}
 use Rattle.machine.specs.Units.{names}
@@ -61,7 +61,7 @@ pub record Turn : Type 0 where
 
 -- what a request gives back: the whole answer and the whole buffer
 pub record Given : Type 0 where
-  pub answer : Answer
+  pub answer : Values
   pub buffer : List ℕ
 
 abbrev pub outcome : Settings → State → Turn → Outcome

@@ -49,6 +49,7 @@ pub enum KeyOperation {
     Reset,
 }
 
+// The two prefix instructions: SET PREFIX with its word, and STORE PREFIX.
 pub enum PrefixInstruction {
     SetPrefix { word: u32 },
     StorePrefix,
@@ -65,17 +66,27 @@ pub enum Request {
     Prefix(PrefixInstruction),
 }
 
-// Why a request is refused: one case for each line of the table of answers, in its order.
+// Why a request is refused: one case for each refusing line of the table of answers, in its order, with its number.
 pub enum Reason {
+    // 64
     Configuration,
+    // 65
     Record,
+    // 66
     Operand,
+    // 1
     Operation,
+    // 2
     Privileged,
+    // 19
     SpecialOperation,
+    // 6
     Specification,
+    // 5
     Addressing,
+    // 67
     AbsoluteAddress,
+    // 4
     Protection,
 }
 

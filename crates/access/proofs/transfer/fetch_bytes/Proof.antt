@@ -1,5 +1,4 @@
 -- `fetch_bytes` moves an access in one run, or in two where it goes past its first unit. Assumes nothing.
-use mathlib.Core.Path.{_∙_}
 use Rattle.access.proofs.Completed.{whole-fits, part-fits, rest-fits, fetch-one, fetch-two}
 use borrow.Author.Needs.{needs}
 use Rattle.access.proofs.transfer.fetch_bytes.Statement.{statement}

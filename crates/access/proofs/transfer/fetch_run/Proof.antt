@@ -1,9 +1,9 @@
 -- `fetch_run` writes its bytes one after the other. The invariant and the addresses are as in `store_run`. Assumes nothing.
-use Prim.Native.Nat.{ℕ, _+_, _-_, _≤_, _<_}
-use mathlib.Core.Path.{_≡_, refl, sym, ap, _∙_}
+use Prim.Native.Nat.{_+_, _-_, _≤_}
+use mathlib.Core.Path.{_≡_, refl}
 use native.Mathlib.Omega.{arith}
 use native.Mathlib.Nat.{le-antisymm}
-use lib.ListN.{getD, length}
+use lib.ListN.{getD}
 use Rattle.machine.specs.Numbers.{written}
 use Rattle.access.proofs.Moves.{kept-length, one-more, run-place}
 use Rattle.access.proofs.transfer.fetch_run.Statement.{statement}

@@ -1,5 +1,4 @@
 -- `store_bytes` moves an access in one run, or in two where it goes past its first unit. Assumes nothing.
-use mathlib.Core.Path.{_∙_}
 use Rattle.access.proofs.Completed.{whole-fits, part-fits, rest-fits, store-one, store-two}
 use borrow.Author.Needs.{needs}
 use Rattle.access.proofs.transfer.store_bytes.Statement.{statement}

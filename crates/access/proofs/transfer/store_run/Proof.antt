@@ -1,10 +1,10 @@
 -- `store_run` writes its bytes one after the other. The invariant: the bytes passed are written, and no more.
 -- Byte j has the real address real + j, since the run does not wrap. Assumes nothing.
-use Prim.Native.Nat.{ℕ, _+_, _-_, _≤_, _<_}
-use mathlib.Core.Path.{_≡_, refl, sym, ap, _∙_}
+use Prim.Native.Nat.{_+_, _-_, _≤_}
+use mathlib.Core.Path.{_≡_, refl}
 use native.Mathlib.Omega.{arith}
 use native.Mathlib.Nat.{le-antisymm}
-use lib.ListN.{getD, length}
+use lib.ListN.{getD}
 use Rattle.machine.specs.Numbers.{written}
 use Rattle.access.proofs.Moves.{kept-length, one-more, run-place}
 use Rattle.access.proofs.transfer.store_run.Statement.{statement}

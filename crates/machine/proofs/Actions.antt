@@ -1,10 +1,10 @@
 -- Two lists of actions on one state, in any order of turns. A state has parts, and an action treats each part in a mode. Two actions whose
 -- modes are apart at every part commute, so an action passes a whole list, and every order ends like the first list and then the second.
 -- Assumes nothing.
-use mathlib.Core.Path.{_≡_, refl, sym, ap, _∙_, subst}
+use mathlib.Core.Path.{_≡_, refl, sym, ap, _∙_}
 use mathlib.Core.Bool.{Bool, true, false, cond}
 use mathlib.Core.List.{List, [], _∷_}
-use Rattle.machine.specs.Turns.{Order, done, first, second, End, run, Every}
+use Rattle.machine.specs.Turns.{Order, done, first, second, run, Every}
 
 -- how an action treats a part: not at all; it fetches it, and completes that or not; or it does anything else with it
 pub data Mode : Type 0 where
@@ -24,6 +24,10 @@ Leaves none t v w = w ≡ v
 Leaves (fetch completed) t v w = w ≡ cond completed (t v) v
 Leaves write t v w = Unit {0}
 
+-- two states are alike to an action, in every part
+abbrev pub AlikeTo : {S A U : Type 0} {P : U → Type 0} → (S → A → U → Mode) → (S → (u : U) → P u) → ((u : U) → P u → P u) → S → S → A → Type 0
+AlikeTo {U = U} mode read touch m n x = (u : U) → Alike (mode m x u) (touch u) (read m u) (read n u)
+
 -- two actions in these modes do not disturb each other
 pub data Free : Mode → Mode → Type 0 where
   only-first : {a : Mode} → Free a none
@@ -36,9 +40,9 @@ pub record Laws (S A R U : Type 0) (P : U → Type 0) (next : S → A → S) (gi
   pub whole : (m n : S) → ((u : U) → read m u ≡ read n u) → m ≡ n
   pub touch-twice : (u : U) (v : P u) → touch u (touch u v) ≡ touch u v
   pub leaves : (m : S) (x : A) (u : U) → Leaves (mode m x u) (touch u) (read m u) (read (next m x) u)
-  pub same-mode : (m n : S) (x : A) → ((u : U) → Alike (mode m x u) (touch u) (read m u) (read n u)) → (u : U) → mode n x u ≡ mode m x u
-  pub same-given : (m n : S) (x : A) → ((u : U) → Alike (mode m x u) (touch u) (read m u) (read n u)) → give n x ≡ give m x
-  pub same-written : (m n : S) (x : A) → ((u : U) → Alike (mode m x u) (touch u) (read m u) (read n u)) → (u : U) → mode m x u ≡ write → read (next n x) u ≡ read (next m x) u
+  pub same-mode : (m n : S) (x : A) → AlikeTo mode read touch m n x → (u : U) → mode n x u ≡ mode m x u
+  pub same-given : (m n : S) (x : A) → AlikeTo mode read touch m n x → give n x ≡ give m x
+  pub same-written : (m n : S) (x : A) → AlikeTo mode read touch m n x → (u : U) → mode m x u ≡ write → read (next n x) u ≡ read (next m x) u
 
 swap : {a b : Mode} → Free a b → Free b a
 swap only-first = only-second

@@ -2,8 +2,8 @@
 use Prim.Native.Nat.{ℕ, zero, suc, _<_, _/_, _%_}
 use mathlib.Core.List.{List, [], _∷_}
 use lib.ListN.{getD}
-use mathlib.Core.Path.{_≡_, refl, sym, _∙_}
-use mathlib.Core.Bool.{Bool, true, false, cond, not, _&&_}
+use mathlib.Core.Path.{_≡_, refl}
+use mathlib.Core.Bool.{Bool, true, false, cond, _&&_}
 use native.Mathlib.Omega.{arith}
 use lib.Dec.{eqb, leb, ltb}
 use borrow.Author.Tests.{ltb-true, leb-false, lt-ltb, eqb-true, not-false}
@@ -14,7 +14,7 @@ use Rattle.machine.specs.declared.Request.the-variants.{Access}
 use Rattle.machine.specs.declared.AccessKind.{AccessKind}
 use Rattle.machine.specs.declared.Verdict.{Verdict}
 use Rattle.machine.specs.declared.Verdict.the-variants.{Clear}
-use Rattle.machine.specs.Numbers.{unitOf, unitSize, storageValid, lengthsValid, recordValid, add24}
+use Rattle.machine.specs.Numbers.{unitOf, unitSize, storageValid, lengthsValid, add24}
 use Rattle.machine.specs.Answers.{line, firstOf, firstLine}
 use Rattle.machine.specs.Prefixing.{byteAt}
 use Rattle.machine.specs.Table.{addressing, absoluteAddressing, plan}

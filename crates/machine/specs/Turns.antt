@@ -74,8 +74,8 @@ abbrev pub given : Settings → State → Turn → Given
 given s m t = let o = outcome s m t in record { answer = o .answer; buffer = o .buffer }
 
 -- a request of processor i's list carries i, or a number that isn't 0 or 1
-abbrev pub Carries : ℕ → Turn → Type 0
-Carries i t = (t .number ≡ i) ⊎ (2 ≤ t .number)
+abbrev pub Carries : ℕ → State → Turn → Type 0
+Carries i m t = (t .number ≡ i) ⊎ (2 ≤ t .number)
 
 -- a request that finds the state m names unit u
 abbrev pub named : Settings → ℕ → State → Turn → Bool
@@ -108,7 +108,7 @@ Apart s m xs ys u =
 abbrev pub AnyOrder : Type 0
 AnyOrder =
     (s : Settings) (m : State) (xs ys : List Turn)
-    → Every (next s) (λ n t. Carries 0 t) m xs
-    → Every (next s) (λ n t. Carries 1 t) m ys
+    → Every (next s) (Carries 0) m xs
+    → Every (next s) (Carries 1) m ys
     → ((u : ℕ) → Apart s m xs ys u)
     → (o p : Order xs ys) → run (next s) (given s) m o ≡ run (next s) (given s) m p

@@ -15,7 +15,9 @@ use Rattle.machine.proofs.Written.{length-written, Last, none, last, la
 use Rattle.machine.proofs.Verdicts.{tested}
 
 -- v is written at place i of one list and w at place i of the other
-pub set-agree : {A : Type 0} (xs ys : List A) (i j : ℕ) (v w d : A) → length xs ≡ length ys → getD xs j d ≡ getD ys j d → (i ≡ j → v ≡ w) → getD (set xs i v) j d ≡ getD (set ys i w) j d
+pub set-agree : {A : Type 0} (xs ys : List A) (i j : ℕ) (v w d : A)
+    → length xs ≡ length ys → getD xs j d ≡ getD ys j d → (i ≡ j → v ≡ w)
+    → getD (set xs i v) j d ≡ getD (set ys i w) j d
 set-agree xs ys i j v w d l e f = go (ℕ-discrete i j)
   where
     at : i ≡ j → getD (set xs j v) j d ≡ getD (set ys j w) j d

@@ -18,10 +18,12 @@ use Rattle.machine.specs.Table.{protection}
 use Rattle.machine.specs.Units.{unitAt, unitCount}
 use Rattle.machine.proofs.Verdicts.{bytes-same}
 
-key-bits : (c f h : ℕ) → c < 16 → f < 2 → h < 2 → (accessControl (keyByte c f 1 h) ≡ c) × (fetchProtection (keyByte c f 1 h) ≡ f) × (change (keyByte c f 1 h) ≡ h)
+key-bits : (c f h : ℕ) → c < 16 → f < 2 → h < 2
+    → (accessControl (keyByte c f 1 h) ≡ c) × (fetchProtection (keyByte c f 1 h) ≡ f) × (change (keyByte c f 1 h) ≡ h)
 key-bits c f h cs fs hs = omega arith
 
-bits-kept : (k : ℕ) → (accessControl (afterFetch k) ≡ accessControl k) × (fetchProtection (afterFetch k) ≡ fetchProtection k) × (change (afterFetch k) ≡ change k)
+bits-kept : (k : ℕ)
+    → (accessControl (afterFetch k) ≡ accessControl k) × (fetchProtection (afterFetch k) ≡ fetchProtection k) × (change (afterFetch k) ≡ change k)
 unfolding afterFetch
 bits-kept k = key-bits (accessControl k) (fetchProtection k) (change k) (omega arith) (omega arith) (omega arith)
 
@@ -39,8 +41,11 @@ module _ (k l : ℕ) (same : afterFetch k ≡ afterFetch l) where
   same-forbidden Store p real = rw same-control
 
 -- line 4 is the same by keys that a fetch would leave the same
-pub same-protection : (s : Settings) (p : Processor) (keys others : List ℕ) (r : Request) → ((i : ℕ) → i < unitCount s r → afterFetch (getD keys (unitAt s p r i) 0) ≡ afterFetch (getD others (unitAt s p r i) 0)) → protection s keys p r ≡ protection s others p r
+pub same-protection : (s : Settings) (p : Processor) (keys others : List ℕ) (r : Request)
+    → ((i : ℕ) → i < unitCount s r → afterFetch (getD keys (unitAt s p r i) 0) ≡ afterFetch (getD others (unitAt s p r i) 0))
+    → protection s keys p r ≡ protection s others p r
 unfolding protection
-same-protection s p keys others (Access kind start count) same = bytes-same _ _ _ count (λ i h. same-forbidden _ _ (same i h) kind p (add24 start i))
+same-protection s p keys others (Access kind start count) same =
+    bytes-same _ _ _ count (λ i h. same-forbidden _ _ (same i h) kind p (add24 start i))
 same-protection s p keys others (Key i) same = refl
 same-protection s p keys others (Prefix i) same = refl

@@ -30,7 +30,9 @@ set-agree xs ys i j v w d l e f = go (ℕ-discrete i j)
     go (no n) = getD-set-other xs i j v d (λ q. n (sym q)) ∙ e ∙ sym (getD-set-other ys i j w d (λ q. n (sym q)))
     go (yes q) = rw q (at q)
 
-pub written-agree : (xs ys : List ℕ) (place f g : ℕ → ℕ) (n j : ℕ) → length xs ≡ length ys → getD xs j 0 ≡ getD ys j 0 → ((i : ℕ) → place i ≡ j → f i ≡ g i) → getD (written xs place f n) j 0 ≡ getD (written ys place g n) j 0
+pub written-agree : (xs ys : List ℕ) (place f g : ℕ → ℕ) (n j : ℕ)
+    → length xs ≡ length ys → getD xs j 0 ≡ getD ys j 0 → ((i : ℕ) → place i ≡ j → f i ≡ g i)
+    → getD (written xs place f n) j 0 ≡ getD (written ys place g n) j 0
 unfolding written
 written-agree xs ys place f g zero j l e same = e
 written-agree xs ys place f g (suc n) j l e same =
@@ -38,15 +40,19 @@ written-agree xs ys place f g (suc n) j l e same =
     (length-written xs place f n ∙ l ∙ sym (length-written ys place g n)) (written-agree xs ys place f g n j l e same) (same n)
 
 -- each element that is reached becomes f of what it was
-pub marked-agree : (xs ys : List ℕ) (place f : ℕ → ℕ) (n j : ℕ) → length xs ≡ length ys → getD xs j 0 ≡ getD ys j 0 → getD (written xs place (λ i. f (getD xs (place i) 0)) n) j 0 ≡ getD (written ys place (λ i. f (getD ys (place i) 0)) n) j 0
+pub marked-agree : (xs ys : List ℕ) (place f : ℕ → ℕ) (n j : ℕ)
+    → length xs ≡ length ys → getD xs j 0 ≡ getD ys j 0
+    → getD (written xs place (λ i. f (getD xs (place i) 0)) n) j 0 ≡ getD (written ys place (λ i. f (getD ys (place i) 0)) n) j 0
 marked-agree xs ys place f n j l e = written-agree xs ys place _ _ n j l e (λ i q. rw q (ap f e))
 
-pub written-values : (xs : List ℕ) (place f g : ℕ → ℕ) (n : ℕ) → ((i : ℕ) → i < n → f i ≡ g i) → written xs place f n ≡ written xs place g n
+pub written-values : (xs : List ℕ) (place f g : ℕ → ℕ) (n : ℕ)
+    → ((i : ℕ) → i < n → f i ≡ g i) → written xs place f n ≡ written xs place g n
 unfolding written
 written-values xs place f g zero same = refl
 written-values xs place f g (suc n) same = rw (written-values xs place f g n (λ i h. same i (omega arith)), same n (omega arith))
 
-pub written-elsewhere : (xs : List ℕ) (place value : ℕ → ℕ) (n j : ℕ) → ((i : ℕ) → i < n → place i ≢ j) → getD (written xs place value n) j 0 ≡ getD xs j 0
+pub written-elsewhere : (xs : List ℕ) (place value : ℕ → ℕ) (n j : ℕ)
+    → ((i : ℕ) → i < n → place i ≢ j) → getD (written xs place value n) j 0 ≡ getD xs j 0
 written-elsewhere xs place value n j other = go (last-write xs place value n j)
   where
     go : Last xs place value n j → getD (written xs place value n) j 0 ≡ getD xs j 0

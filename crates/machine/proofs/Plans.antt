@@ -1,10 +1,10 @@
 -- A plan: whose record it looks at, and what holds where it is clear. The lines of the table are taken one by one. Assumes nothing.
 use Prim.Native.Nat.{ℕ, zero, suc, _<_, _/_, _%_}
-use mathlib.Core.List.{List, [], _∷_}
-use lib.ListN.{getD}
 use mathlib.Core.Path.{_≡_, refl}
 use mathlib.Core.Bool.{Bool, true, false, cond, _&&_}
+use mathlib.Core.List.{List, [], _∷_}
 use native.Mathlib.Omega.{arith}
+use lib.ListN.{getD}
 use lib.Dec.{eqb, leb, ltb}
 use borrow.Author.Tests.{ltb-true, leb-false, lt-ltb, eqb-true, not-false}
 use Rattle.machine.specs.declared.Settings.{Settings}
@@ -32,9 +32,11 @@ line-at (v ∷ vs) e zero = first-clear v _ e .0
 line-at (v ∷ vs) e (suc i) = line-at vs (first-clear v _ e .1) i
 
 -- an address inside storage has a unit with a key
-unit-inside : (s : Settings) (storageLength keyLength address : ℕ) → lengthsValid s storageLength keyLength ≡ true → address < storageLength → unitOf s address < keyLength
+unit-inside : (s : Settings) (storageLength keyLength address : ℕ)
+    → lengthsValid s storageLength keyLength ≡ true → address < storageLength → unitOf s address < keyLength
 unit-inside s storageLength keyLength address valid h =
-    go (s .«four_k») (eqb-true _ _ (and-both multiple _ (and-both (multiple && leb 4096 storageLength) _ (both .0) .0) .0)) (eqb-true _ _ (both .1))
+    go (s .«four_k») (eqb-true _ _ (and-both multiple _ (and-both (multiple && leb 4096 storageLength) _ (both .0) .0) .0))
+    (eqb-true _ _ (both .1))
   where
     multiple : Bool
     multiple = eqb (storageLength % 4096) 0
@@ -42,16 +44,19 @@ unit-inside s storageLength keyLength address valid h =
     both : (storageValid storageLength ≡ true) × (eqb keyLength (storageLength / unitSize s) ≡ true)
     both = and-both (storageValid storageLength) _ valid
 
-    go : (fourK : Bool) → storageLength % 4096 ≡ 0 → keyLength ≡ storageLength / cond fourK 4096 2048 → address / cond fourK 4096 2048 < keyLength
+    go : (fourK : Bool) → storageLength % 4096 ≡ 0 → keyLength ≡ storageLength / cond fourK 4096 2048
+        → address / cond fourK 4096 2048 < keyLength
     go true m e = omega arith
     go false m e = omega arith
 
 module _ (s : Settings) (storageLength keyLength n bufferLength : ℕ) where
   -- of a number that isn't 0 or 1 the plan looks at no record
-  pub no-record : (r : Request) (p q : Processor) → ltb n 2 ≡ false → plan s storageLength keyLength n p r bufferLength ≡ plan s storageLength keyLength n q r bufferLength
+  pub no-record : (r : Request) (p q : Processor) → ltb n 2 ≡ false
+      → plan s storageLength keyLength n p r bufferLength ≡ plan s storageLength keyLength n q r bufferLength
   unfolding plan firstLine firstOf line
   no-record r p q e = rw e
 
+  -- a clear plan; its lines are counted from 0
   module _ (r : Request) (p : Processor) (clear : plan s storageLength keyLength n p r bufferLength ≡ Clear) where
     lengths-valid : lengthsValid s storageLength keyLength ≡ true
     unfolding plan
@@ -70,7 +75,9 @@ module _ (s : Settings) (storageLength keyLength n bufferLength : ℕ) where
     absolute-clear = line-at _ clear 8
 
   -- the unit of each byte of an access has a key
-  pub unit-reached : (p : Processor) (kind : AccessKind) (start count : ℕ) → plan s storageLength keyLength n p (Access kind start count) bufferLength ≡ Clear → (i : ℕ) → i < count → unitOf s (byteAt p start i) < keyLength
+  pub unit-reached : (p : Processor) (kind : AccessKind) (start count : ℕ)
+      → plan s storageLength keyLength n p (Access kind start count) bufferLength ≡ Clear
+      → (i : ℕ) → i < count → unitOf s (byteAt p start i) < keyLength
   unfolding addressing absoluteAddressing
   unit-reached p kind start count clear i h =
       unit-inside s storageLength keyLength _ (lengths-valid r p clear)

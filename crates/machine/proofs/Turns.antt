@@ -32,7 +32,8 @@ reads-free untreated r = only-second
 reads-free fetched untreated = only-first
 reads-free fetched fetched = fetches
 
-fetch-reads : (isNamed isFetched completes : Bool) → (isNamed ≡ true → isFetched ≡ true) → Reads (cond isNamed (cond isFetched (fetch completes) write) none)
+fetch-reads : (isNamed isFetched completes : Bool) → (isNamed ≡ true → isFetched ≡ true)
+    → Reads (cond isNamed (cond isFetched (fetch completes) write) none)
 fetch-reads false f c h = untreated
 fetch-reads true true c h = fetched
 fetch-reads true false c h = absurd (not-both (h refl) refl)
@@ -40,14 +41,17 @@ fetch-reads true false c h = absurd (not-both (h refl) refl)
 pub any-order : AnyOrder
 any-order s m xs ys firsts seconds apart o p = any-turns (laws s) m o p free
   where
-    pairs : (P Q : State → Turn → Type 0) (q : Part) → Every (next s) P m xs → Every (next s) Q m ys → ((k : State) (x : Turn) (n : State) (y : Turn) → P k x → Q n y → Free (mode s k x q) (mode s n y q)) → AllFree (laws s) m xs ys q
+    -- what holds of each request of the one list and of the other keeps them free at q
+    pairs : (P Q : State → Turn → Type 0) (q : Part) → Every (next s) P m xs → Every (next s) Q m ys
+        → ((k : State) (x : Turn) (n : State) (y : Turn) → P k x → Q n y → Free (mode s k x q) (mode s n y q)) → AllFree (laws s) m xs ys q
     pairs P Q q f g r = every (next s) P _ m xs (λ k x h. every (next s) Q _ m ys (λ n y j. r k x n y h j) g) f
 
     units : (u : ℕ) → AllFree (laws s) m xs ys (key u)
     units u =
         ⊎-elim (λ h. pairs _ _ (key u) h seconds (λ k x n y e f. rw e only-second))
         (⊎-elim (λ h. pairs _ _ (key u) firsts h (λ k x n y e f. rw f only-first))
-        (λ h. pairs _ _ (key u) (h .0) (h .1) (λ k x n y e f. reads-free (fetch-reads (named s u k x) (isFetch (x .request)) _ e) (fetch-reads (named s u n y) (isFetch (y .request)) _ f))))
+        (λ h. pairs _ _ (key u) (h .0) (h .1) (λ k x n y e f.
+        reads-free (fetch-reads (named s u k x) (isFetch (x .request)) _ e) (fetch-reads (named s u n y) (isFetch (y .request)) _ f))))
         (apart u)
 
     records : (i : ℕ) → Dec (i ≡ 0) → AllFree (laws s) m xs ys (processor i)

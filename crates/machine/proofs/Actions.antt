@@ -1,6 +1,6 @@
 -- Two lists of actions on one state, in any order of turns. A state has parts, and an action treats each part in a mode. Two actions whose
--- modes are apart at every part commute, so an action passes a whole list, and every order ends like the first list and then the second.
--- Assumes nothing.
+-- modes are free of each other at every part commute; so an action passes a whole list, and every order ends like the first list and then
+-- the second. Assumes nothing.
 use mathlib.Core.Path.{_≡_, refl, sym, ap, _∙_}
 use mathlib.Core.Bool.{Bool, true, false, cond}
 use mathlib.Core.List.{List, [], _∷_}
@@ -12,7 +12,7 @@ pub data Mode : Type 0 where
   fetch : Bool → Mode
   write : Mode
 
--- t is what a completed fetch makes of a part. To an action in this mode v and w are the same
+-- t is what a completed fetch makes of a part. To an action in this mode v and w are alike
 abbrev pub Alike : {P : Type 0} → Mode → (P → P) → P → P → Type 0
 Alike none t v w = Unit {0}
 Alike (fetch completed) t v w = t v ≡ t w
@@ -24,67 +24,78 @@ Leaves none t v w = w ≡ v
 Leaves (fetch completed) t v w = w ≡ cond completed (t v) v
 Leaves write t v w = Unit {0}
 
--- two actions in these modes do not disturb each other
+-- two actions that treat a part in these modes are free of each other there
 pub data Free : Mode → Mode → Type 0 where
   only-first : {a : Mode} → Free a none
   only-second : {b : Mode} → Free none b
   fetches : {c d : Bool} → Free (fetch c) (fetch d)
 
--- what is asked of the actions: the parts are the whole state; each part is left as its mode says; and to an action to which two states
--- are alike in every part they are the same in its modes, in what it gives back and in what it writes
-pub record Laws (S A R U : Type 0) (P : U → Type 0) (next : S → A → S) (give : S → A → R) (mode : S → A → U → Mode) (read : S → (u : U) → P u) (touch : (u : U) → P u → P u) : Type 0 where
+-- to an action that finds the state m, the state n is alike in every part
+abbrev pub AlikeTo : {S A U : Type 0} {P : U → Type 0}
+    → (S → A → U → Mode) → (S → (u : U) → P u) → ((u : U) → P u → P u) → S → S → A → Type 0
+AlikeTo {U = U} mode read touch m n x = (u : U) → Alike (mode m x u) (touch u) (read m u) (read n u)
+
+-- what is asked of actions: the parts are the whole state; an action leaves each part as its mode says; and in a state that is alike to it,
+-- an action has the same modes, gives back the same and leaves the same where it writes
+pub record Laws (S A R U : Type 0) (P : U → Type 0) (next : S → A → S) (give : S → A → R) (mode : S → A → U → Mode)
+    (read : S → (u : U) → P u) (touch : (u : U) → P u → P u) : Type 0 where
   pub whole : (m n : S) → ((u : U) → read m u ≡ read n u) → m ≡ n
   pub touch-twice : (u : U) (v : P u) → touch u (touch u v) ≡ touch u v
   pub leaves : (m : S) (x : A) (u : U) → Leaves (mode m x u) (touch u) (read m u) (read (next m x) u)
-  pub same-mode : (m n : S) (x : A) → ((u : U) → Alike (mode m x u) (touch u) (read m u) (read n u)) → (u : U) → mode n x u ≡ mode m x u
-  pub same-given : (m n : S) (x : A) → ((u : U) → Alike (mode m x u) (touch u) (read m u) (read n u)) → give n x ≡ give m x
-  pub same-written : (m n : S) (x : A) → ((u : U) → Alike (mode m x u) (touch u) (read m u) (read n u)) → (u : U) → mode m x u ≡ write → read (next n x) u ≡ read (next m x) u
+  pub same-mode : (m n : S) (x : A) → AlikeTo mode read touch m n x → (u : U) → mode n x u ≡ mode m x u
+  pub same-given : (m n : S) (x : A) → AlikeTo mode read touch m n x → give n x ≡ give m x
+  pub same-written : (m n : S) (x : A)
+      → AlikeTo mode read touch m n x → (u : U) → mode m x u ≡ write → read (next n x) u ≡ read (next m x) u
 
 swap : {a b : Mode} → Free a b → Free b a
 swap only-first = only-second
 swap only-second = only-first
 swap fetches = fetches
 
+-- one part, that holds v
 module _ {P : Type 0} (t : P → P) (twice : (v : P) → t (t v) ≡ t v) (v : P) where
-  same : (b : Mode) (w : P) → w ≡ v → Alike b t v w
-  same none w e = tt
-  same (fetch c) w e = ap t (sym e)
-  same write w e = sym e
+  same-alike : (b : Mode) (w : P) → w ≡ v → Alike b t v w
+  same-alike none w e = tt
+  same-alike (fetch c) w e = ap t (sym e)
+  same-alike write w e = sym e
 
-  touched : (c : Bool) (w : P) → w ≡ cond c (t v) v → t v ≡ t w
-  touched true w e = sym (ap t e ∙ twice v)
-  touched false w e = ap t (sym e)
+  fetched-alike : (c : Bool) (w : P) → w ≡ cond c (t v) v → t v ≡ t w
+  fetched-alike true w e = sym (ap t e ∙ twice v)
+  fetched-alike false w e = ap t (sym e)
 
-  -- what an action leaves of v is alike to one that it does not disturb
-  undisturbed : {a b : Mode} (w : P) → Free a b → Leaves a t v w → Alike b t v w
-  undisturbed w (only-second {b = b}) e = same b w e
-  undisturbed w only-first e = tt
-  undisturbed w (fetches {c = c}) e = touched c w e
+  -- what an action leaves of v is alike to an action that is free of it
+  free-alike : {a b : Mode} (w : P) → Free a b → Leaves a t v w → Alike b t v w
+  free-alike w only-first e = tt
+  free-alike w (only-second {b = b}) e = same-alike b w e
+  free-alike w (fetches {c = c}) e = fetched-alike c w e
 
-  -- one action makes x of v and then q of y, the other makes y of v and then p of x
-  module _ (x y p q : P) where
-    beside : (b : Mode) → x ≡ v → q ≡ y → Leaves b t v y → Leaves b t x p → (b ≡ write → p ≡ y) → p ≡ q
-    beside none e f g h w = cc
-    beside (fetch true) e f g h w = cc
-    beside (fetch false) e f g h w = cc
-    beside write e f g h w = w refl ∙ sym f
+  -- one action makes x of v, and q of y; the other makes y of v, and p of x
+  only-meet : (b : Mode) (x y p q : P) → x ≡ v → q ≡ y → Leaves b t v y → Leaves b t x p → (b ≡ write → p ≡ y) → p ≡ q
+  only-meet none x y p q e f g h w = cc
+  only-meet (fetch true) x y p q e f g h w = cc
+  only-meet (fetch false) x y p q e f g h w = cc
+  only-meet write x y p q e f g h w = w refl ∙ sym f
 
-    touch-both : (c d : Bool) → x ≡ cond c (t v) v → q ≡ cond c (t y) y → y ≡ cond d (t v) v → p ≡ cond d (t x) x → p ≡ q
-    touch-both true true e f g h = cc
-    touch-both true false e f g h = cc
-    touch-both false true e f g h = cc
-    touch-both false false e f g h = cc
+  fetches-meet : (c d : Bool) (x y p q : P)
+      → x ≡ cond c (t v) v → q ≡ cond c (t y) y → y ≡ cond d (t v) v → p ≡ cond d (t x) x → p ≡ q
+  fetches-meet true true x y p q e f g h = cc
+  fetches-meet true false x y p q e f g h = cc
+  fetches-meet false true x y p q e f g h = cc
+  fetches-meet false false x y p q e f g h = cc
 
-  meet : {a b : Mode} (x y p q : P) → Free a b → Leaves a t v x → Leaves a t y q → (a ≡ write → q ≡ x) → Leaves b t v y → Leaves b t x p → (b ≡ write → p ≡ y) → p ≡ q
-  meet x y p q (only-second {b = b}) e f k g h l = beside x y p q b e f g h l
-  meet x y p q (only-first {a = a}) e f k g h l = sym (beside y x q p a g h e f k)
-  meet x y p q (fetches {c = c} {d = d}) e f k g h l = touch-both x y p q c d e f g h
+  free-meet : {a b : Mode} (x y p q : P) → Free a b
+      → Leaves a t v x → Leaves a t y q → (a ≡ write → q ≡ x)
+      → Leaves b t v y → Leaves b t x p → (b ≡ write → p ≡ y) → p ≡ q
+  free-meet x y p q (only-first {a = a}) e f k g h l = sym (only-meet a y x q p g h e f k)
+  free-meet x y p q (only-second {b = b}) e f k g h l = only-meet b x y p q e f g h l
+  free-meet x y p q (fetches {c = c} {d = d}) e f k g h l = fetches-meet c d x y p q e f g h
 
-module _ {S A : Type 0} (next : S → A → S) where
-  pub every : (p q : S → A → Type 0) (m : S) (xs : List A) → ((n : S) (x : A) → p n x → q n x) → Every next p m xs → Every next q m xs
-  every p q m [] f h = tt
-  every p q m (x ∷ xs) f h = (f m x (h .0), every p q (next m x) xs f (h .1))
+pub every : {S A : Type 0} (next : S → A → S) (p q : S → A → Type 0) (m : S) (xs : List A)
+    → ((n : S) (x : A) → p n x → q n x) → Every next p m xs → Every next q m xs
+every next p q m [] f h = tt
+every next p q m (x ∷ xs) f h = (f m x (h .0), every next p q (next m x) xs f (h .1))
 
+-- a list that runs alone: the state at its end, and what its elements give back
 abbrev through : {S A : Type 0} → (S → A → S) → S → List A → S
 through next m [] = m
 through next m (x ∷ xs) = through next (next m x) xs
@@ -93,11 +104,12 @@ abbrev gives : {S A R : Type 0} → (S → A → S) → (S → A → R) → S �
 gives next give m [] = []
 gives next give m (x ∷ xs) = give m x ∷ gives next give (next m x) xs
 
-module _ {S A R U : Type 0} {P : U → Type 0} {next : S → A → S} {give : S → A → R} {mode : S → A → U → Mode} {read : S → (u : U) → P u} {touch : (u : U) → P u → P u} (laws : Laws S A R U P next give mode read touch) where
-  -- y after x, and x does not disturb it
+module _ {S A R U : Type 0} {P : U → Type 0} {next : S → A → S} {give : S → A → R} {mode : S → A → U → Mode}
+    {read : S → (u : U) → P u} {touch : (u : U) → P u → P u} (laws : Laws S A R U P next give mode read touch) where
+  -- y after x is as y without it
   module _ (m : S) (x y : A) (free : (u : U) → Free (mode m x u) (mode m y u)) where
-    alike : (u : U) → Alike (mode m y u) (touch u) (read m u) (read (next m x) u)
-    alike u = undisturbed (touch u) (laws .touch-twice u) _ _ (free u) (laws .leaves m x u)
+    alike : AlikeTo mode read touch m (next m x) y
+    alike u = free-alike (touch u) (laws .touch-twice u) _ _ (free u) (laws .leaves m x u)
 
     later-mode : (u : U) → mode (next m x) y u ≡ mode m y u
     later-mode = laws .same-mode m (next m x) y alike
@@ -114,45 +126,50 @@ module _ {S A R U : Type 0} {P : U → Type 0} {next : S → A → S} {give : S 
   commute : (m : S) (x y : A) → ((u : U) → Free (mode m x u) (mode m y u)) → next (next m x) y ≡ next (next m y) x
   commute m x y free =
       laws .whole _ _ (λ u.
-      meet (touch u) (laws .touch-twice u) _ _ _ _ _ (free u)
+      free-meet (touch u) (laws .touch-twice u) _ _ _ _ _ (free u)
       (laws .leaves m x u) (later-leaves m y x back u) (later-written m y x back u)
       (laws .leaves m y u) (later-leaves m x y free u) (later-written m x y free u))
     where
       back : (u : U) → Free (mode m y u) (mode m x u)
       back u = swap (free u)
 
-  -- x before a list leaves and gives back what it does after it, and the list keeps its modes and what it gives back
+  -- x before the list ends as x after it, and the list gives back the same and has the same modes after x as without it
   record Passed (m : S) (x : A) (ys : List A) : Type 1 where
     past : through next (next m x) ys ≡ next (through next m ys) x
     same-gives : gives next give (next m x) ys ≡ gives next give m ys
-    same-modes : (p : Mode → Type 0) (u : U) → Every next (λ n y. p (mode n y u)) m ys → Every next (λ n y. p (mode n y u)) (next m x) ys
+    same-modes : (p : Mode → Type 0) (u : U)
+        → Every next (λ n y. p (mode n y u)) m ys → Every next (λ n y. p (mode n y u)) (next m x) ys
 
   pass : (m : S) (x : A) (ys : List A) → ((u : U) → Every next (λ n y. Free (mode m x u) (mode n y u)) m ys) → Passed m x ys
   pass m x [] free = record { past = refl; same-gives = refl; same-modes = λ p u h. tt }
-  pass m x (y ∷ ys) free = go (pass (next m y) x ys (λ u. rw (later-mode m y x (λ v. swap (free v .0)) u) (free u .1)))
-    where
-      go : Passed (next m y) x ys → Passed m x (y ∷ ys)
-      go next =
-          record {
-            past = rw (commute m x y (λ u. free u .0)) (next .past);
-            same-gives = rw (commute m x y (λ u. free u .0), later-given m x y (λ u. free u .0), next .same-gives);
-            same-modes = λ p u h. (rw (later-mode m x y (λ v. free v .0) u) (h .0), rw (commute m x y (λ u. free u .0)) (next .same-modes p u (h .1)));
-          }
+  pass m x (y ∷ ys) free =
+      let here : (u : U) → Free (mode m x u) (mode m y u) = λ u. free u .0 in
+      let rest = pass (next m y) x ys (λ u. rw (later-mode m y x (λ v. swap (here v)) u) (free u .1)) in
+      record {
+        past = rw (commute m x y here) (rest .past);
+        same-gives = rw (commute m x y here, later-given m x y here, rest .same-gives);
+        same-modes = λ p u h. (rw (later-mode m x y here u) (h .0), rw (commute m x y here) (rest .same-modes p u (h .1)));
+      }
 
-  -- each action of xs and each of ys, in the runs of the lists alone, are apart at u
+  -- each action of xs is free of each of ys at u; each list runs alone from m
   abbrev pub AllFree : S → List A → List A → U → Type 0
   AllFree m xs ys u = Every next (λ k x. Every next (λ n y. Free (mode k x u) (mode n y u)) m ys) m xs
 
-  -- in any order the end is that of the first list and then the second, and each action gives back what it gives where its list runs alone
-  turns : (m : S) {xs ys : List A} (o : Order xs ys) → ((u : U) → AllFree m xs ys u) → run next give m o ≡ record { state = through next (through next m xs) ys; first = gives next give m xs; second = gives next give m ys }
+  -- the end is that of the first list and then the second, and each action gives back what it gives where its list runs alone
+  turns : (m : S) {xs ys : List A} (o : Order xs ys) → ((u : U) → AllFree m xs ys u)
+      → run next give m o ≡ record { state = through next (through next m xs) ys; first = gives next give m xs; second = gives next give m ys }
   unfolding run
   turns m done free = refl
   turns m (first {x = x} {xs = xs} {ys = ys} o) free =
       let passed = pass m x ys (λ u. free u .0) in
-      rw (turns (next m x) o (λ u. every next _ _ (next m x) xs (λ k z h. passed .same-modes (Free (mode k z u)) u h) (free u .1)), passed .same-gives)
+      let rest = turns (next m x) o (λ u. every next _ _ (next m x) xs (λ k z. passed .same-modes (Free (mode k z u)) u) (free u .1)) in
+      rw (rest, passed .same-gives)
   turns m (second {y = y} {xs = xs} {ys = ys} o) free =
       let passed = pass m y xs (λ u. every next _ _ m xs (λ k x h. swap (h .0)) (free u)) in
-      rw (turns (next m y) o (λ u. passed .same-modes (λ a. Every next (λ n z. Free a (mode n z u)) (next m y) ys) u (every next _ _ m xs (λ k x h. h .1) (free u))), passed .past, passed .same-gives)
+      let rest =
+      turns (next m y) o (λ u.
+      passed .same-modes (λ a. Every next (λ n z. Free a (mode n z u)) (next m y) ys) u (every next _ _ m xs (λ k x h. h .1) (free u))) in
+      rw (rest, passed .past, passed .same-gives)
 
   pub any-turns : (m : S) {xs ys : List A} (o p : Order xs ys) → ((u : U) → AllFree m xs ys u) → run next give m o ≡ run next give m p
   any-turns m o p free = turns m o free ∙ sym (turns m p free)

@@ -1,7 +1,9 @@
 -- The laws of the rules.
+-- Runs of writes, verdicts, and the table of small facts
 pub mod Written
 pub mod Verdicts
 pub mod SmallFacts
+-- A single request
 pub mod Prefixing
 pub mod Units
 pub mod KeyBytes
@@ -12,8 +14,12 @@ pub mod Accesses
 pub mod KeyInstructions
 pub mod Named
 pub mod Order
+-- Condition 3: the law about lists of actions, and that the step obeys it
 pub mod Actions
-pub mod Locality
+pub mod Places
+pub mod Fetches
 pub mod Parts
+pub mod Completed
+pub mod Steps
 pub mod Turns
 pub mod TurnFacts

@@ -72,11 +72,14 @@ module _ (storage : List ℕ) (h : length storage ≡ 65536) where
 
     bytes-left : (getD (ending storage secondLast .state .storage) 0 0 ≡ b) × (getD (ending storage firstLast .state .storage) 0 0 ≡ a)
     unfolding run written afterStore line firstOf firstByte firstLine absolute permitted lowProtected addressing absoluteAddressing protection plan verdict storageLeft bufferLeft keysRecorded completed performed step
-    bytes-left =
-        (rw (h, length-set storage 0 a, h, set-set storage 0 a b) (getD-set-same storage 0 b 0 (omega arith)), rw (h, length-set storage 0 b, h, set-set storage 0 b a) (getD-set-same storage 0 a 0 (omega arith)))
+    bytes-left = (
+      rw (h, length-set storage 0 a, h, set-set storage 0 a b) (getD-set-same storage 0 b 0 (omega arith)),
+      rw (h, length-set storage 0 b, h, set-set storage 0 b a) (getD-set-same storage 0 a 0 (omega arith)),
+    )
 
     pub order-matters : ending storage secondLast .state .storage ≢ ending storage firstLast .state .storage
     order-matters e = different (sym (bytes-left .1) ∙ ap (λ l. getD l 0 0) (sym e) ∙ bytes-left .0)
 
     pub shared-unit : ¬ ((u : ℕ) → Apart settings (start storage) (store 0 0 a ∷ []) (store 1 4096 b ∷ []) u)
-    shared-unit apart = order-matters (ap (λ e. e .state .storage) (any-order settings (start storage) _ _ (inl refl, tt) (inl refl, tt) apart secondLast firstLast))
+    shared-unit apart =
+        order-matters (ap (λ e. e .state .storage) (any-order settings (start storage) _ _ (inl refl, tt) (inl refl, tt) apart secondLast firstLast))

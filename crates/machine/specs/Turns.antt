@@ -1,4 +1,5 @@
--- Condition 3: the order of turns does not matter. What a list is, the units that it names, the orders of turns of two lists, and the claim.
+-- Lists and units named, for the third condition: the orders of turns of two lists, the run in such an order, the units that a list names,
+-- and the claim that the order of turns does not matter.
 use Prim.Native.Nat.{ℕ, _≤_}
 use mathlib.Core.Path.{_≡_}
 use mathlib.Core.Bool.{Bool, true, false}
@@ -16,7 +17,7 @@ use Rattle.machine.specs.Table.{plan}
 use Rattle.machine.specs.Step.{Outcome, step}
 use Rattle.machine.specs.Units.{names}
 
--- Lists of anything, in turns.
+-- First, two lists of anything.
 
 -- an order of turns of two lists: each list's own order is kept
 pub data Order {A : Type 0} : List A → List A → Type 0 where
@@ -24,7 +25,7 @@ pub data Order {A : Type 0} : List A → List A → Type 0 where
   first : {x : A} {xs ys : List A} → Order xs ys → Order (x ∷ xs) ys
   second : {y : A} {xs ys : List A} → Order xs ys → Order xs (y ∷ ys)
 
--- the end of a run: the state, and what each element of the first list and of the second gave back
+-- the end of a run: the state, and what each element of the first list and each of the second gave back
 pub record End (S R : Type 0) : Type 0 where
   pub state : S
   pub first : List R
@@ -40,20 +41,20 @@ run next give m (second {y = y} o) =
     let e = run next give (next m y) o in
     record { state = e .state; first = e .first; second = give m y ∷ e .second }
 
--- every element of a list that runs alone has the property p together with the state that it finds
+-- every element of a list that runs alone from m has the property p, with the state that it finds
 abbrev pub Every : {S A : Type 0} → (S → A → S) → (S → A → Type 0) → S → List A → Type 0
 Every next p m [] = Unit {0}
 Every next p m (x ∷ xs) = p m x × Every next p (next m x) xs
 
--- The machine's lists.
+-- Now the lists of the two processors.
 
--- what each request gets from the one before it; the settings stay
+-- what each request gets from the one before it: storage, key array and the pair of records. The settings stay
 pub record State : Type 0 where
   pub storage : List ℕ
   pub keys : List ℕ
   pub processors : List Processor
 
--- a request of a list, with the processor number that it carries and its own buffer, as it stands before every run
+-- a request of a list: the number that it carries, and its own buffer as it stands before every run, for a store the bytes to be stored
 pub record Turn : Type 0 where
   pub number : ℕ
   pub request : Request
@@ -74,15 +75,16 @@ abbrev pub given : Settings → State → Turn → Given
 given s m t = let o = outcome s m t in record { answer = o .answer; buffer = o .buffer }
 
 -- a request of processor i's list carries i, or a number that isn't 0 or 1
-abbrev pub Carries : ℕ → Turn → Type 0
-Carries i t = (t .number ≡ i) ⊎ (2 ≤ t .number)
+abbrev pub Carries : ℕ → State → Turn → Type 0
+Carries i m t = (t .number ≡ i) ⊎ (2 ≤ t .number)
 
--- a request that finds the state m names unit u
+-- a request that finds the state m names unit u, by the prefix then in force
 abbrev pub named : Settings → ℕ → State → Turn → Bool
 named s u m t =
     let p = own (m .processors) (t .number) in
     names (plan s (length (m .storage)) (length (m .keys)) (t .number) p (t .request) (length (t .buffer))) s p (t .request) u
 
+-- nothing but a fetch names as a fetch
 abbrev pub isFetch : Request → Bool
 isFetch (Access Fetch start count) = true
 isFetch (Access Store start count) = false
@@ -92,7 +94,7 @@ isFetch (Prefix i) = false
 abbrev pub Unnamed : Settings → ℕ → State → Turn → Type 0
 Unnamed s u m t = named s u m t ≡ false
 
--- if it names unit u, it is a fetch
+-- a request that finds the state m and names unit u is a fetch
 abbrev pub FetchesOnly : Settings → ℕ → State → Turn → Type 0
 FetchesOnly s u m t = named s u m t ≡ true → isFetch (t .request) ≡ true
 
@@ -103,12 +105,12 @@ Apart s m xs ys u =
     ⊎ (Every (next s) (Unnamed s u) m ys
     ⊎ (Every (next s) (FetchesOnly s u) m xs × Every (next s) (FetchesOnly s u) m ys))
 
--- the claim: the first list is processor 0's, the second processor 1's; any two orders of turns end with the same storage, keys and
--- records, and give back the same answer and buffer request by request
+-- the claim. The first list is processor 0's, the second processor 1's, and either may be empty; the start is any. Any two orders of turns
+-- end with the same storage, keys and records, and give back the same answers and buffers, request by request
 abbrev pub AnyOrder : Type 0
 AnyOrder =
     (s : Settings) (m : State) (xs ys : List Turn)
-    → Every (next s) (λ n t. Carries 0 t) m xs
-    → Every (next s) (λ n t. Carries 1 t) m ys
+    → Every (next s) (Carries 0) m xs
+    → Every (next s) (Carries 1) m ys
     → ((u : ℕ) → Apart s m xs ys u)
     → (o p : Order xs ys) → run (next s) (given s) m o ≡ run (next s) (given s) m p

@@ -10,6 +10,7 @@ pub mod KeyBytes
 pub mod Plans
 pub mod AbsoluteAddress
 pub mod Requests
+pub mod Conditions
 pub mod Accesses
 pub mod KeyInstructions
 pub mod Named

@@ -13,6 +13,7 @@ pub mod KeyInstructions
 -- The table of answers, and one request with all that it leaves
 pub mod Table
 pub mod Step
+pub mod Conditions
 -- Lists and units named, for the third condition
 pub mod Units
 pub mod Turns

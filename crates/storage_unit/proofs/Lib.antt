@@ -1,0 +1,3 @@
+-- The laws of the entry point.
+pub mod Prefixes
+pub mod Conditions

@@ -1,0 +1,57 @@
+-- `access_request` is the step of an access: by its kind. Assumes nothing.
+use borrow.Author.Needs.{needs}
+use Rattle.storage_unit.proofs.access_request.Statement.{statement}
+use Rattle.storage_unit.proofs.access_request.Tie as tie
+
+enum-told : tie.Need-enum-told
+enum-told c = search needs
+
+fetch-requires : tie.Need-fetch-requires
+fetch-requires c κs = search needs
+
+enum-told-2 : tie.Need-enum-told-2
+enum-told-2 c = search needs
+
+store-requires : tie.Need-store-requires
+store-requires c κs = search needs
+
+same-length : tie.Need-same-length
+same-length c = search needs
+
+same-length-2 : tie.Need-same-length-2
+same-length-2 c = search needs
+
+same-length-3 : tie.Need-same-length-3
+same-length-3 c = search needs
+
+returns : tie.Need-returns
+returns c = rw (c .before .before .before .before .before .before .before .before .enum-told .given .1) (c .before .before .before .before .fetch .ensures)
+
+same-length-4 : tie.Need-same-length-4
+same-length-4 c = search needs
+
+same-length-5 : tie.Need-same-length-5
+same-length-5 c = search needs
+
+same-length-6 : tie.Need-same-length-6
+same-length-6 c = search needs
+
+returns-2 : tie.Need-returns-2
+returns-2 c = rw (c .before .before .before .before .before .before .before .before .enum-told2 .given .1) (c .before .before .before .before .store .ensures)
+
+pub access-request-spec : {M : Type 1} → statement M
+access-request-spec =
+    tie.close
+    (tie.spec
+    enum-told
+    fetch-requires
+    enum-told-2
+    store-requires
+    same-length
+    same-length-2
+    same-length-3
+    returns
+    same-length-4
+    same-length-5
+    same-length-6
+    returns-2)

@@ -1,0 +1,3 @@
+-- The laws of the boundary.
+pub mod Laws
+pub mod Calls

@@ -1,0 +1,51 @@
+-- `pack` puts number, place and word side by side. Assumes nothing.
+use native.Mathlib.Omega.{arith}
+use Rattle.host.proofs.Laws.{number-at-most}
+use borrow.Author.Needs.{needs}
+use Rattle.host.proofs.request.pack.Statement.{statement}
+use Rattle.host.proofs.request.pack.Tie as tie
+
+enum-known-answer : tie.Need-enum-known-answer
+enum-known-answer c = search needs
+
+cast-result : tie.Need-cast-result
+cast-result c = search needs
+
+enum-known-answer-2 : tie.Need-enum-known-answer-2
+enum-known-answer-2 c = search needs
+
+number-of-requires : tie.Need-number-of-requires
+number-of-requires c κs = search needs
+
+mul-result : tie.Need-mul-result
+mul-result c = rw (c .number-of .ensures) (omega (arith, number-at-most (c .before .before .answer2 .given .0 .0)))
+
+cast-result-2 : tie.Need-cast-result-2
+cast-result-2 c = search needs
+
+mul-result-2 : tie.Need-mul-result-2
+mul-result-2 c = search needs
+
+add-result : tie.Need-add-result
+add-result c = rw (c .number-of .ensures) (omega (arith, number-at-most (c .before .before .answer2 .given .0 .0)))
+
+returns : tie.Need-returns
+returns c = rw (c .before .answer .given .1) (omega arith)
+
+returns-2 : tie.Need-returns-2
+returns-2 c = rw (c .before .before .answer2 .given .1, c .number-of .ensures) (omega arith)
+
+pub pack-spec : {M : Type 1} → statement M
+pack-spec =
+    tie.close
+    (tie.spec
+    enum-known-answer
+    cast-result
+    enum-known-answer-2
+    number-of-requires
+    mul-result
+    cast-result-2
+    mul-result-2
+    add-result
+    returns
+    returns-2)

@@ -1,0 +1,118 @@
+-- The boundary for programs in other languages. A call is the step of the storage unit on what its numbers and bytes stand for.
+use Prim.Native.Nat.{ℕ, _+_, _*_, _/_, _%_}
+use mathlib.Core.Bool.{Bool, true, false, cond, _&&_}
+use mathlib.Core.List.{List, [], _∷_}
+use lib.ListN.{length, getD}
+use lib.Dec.{eqb, ltb}
+use Rattle.machine.specs.declared.Settings.{Settings}
+use Rattle.machine.specs.declared.Processor.{Processor}
+use Rattle.machine.specs.declared.Request.{Request}
+use Rattle.machine.specs.declared.Request.the-variants.{Access, Key, Prefix}
+use Rattle.machine.specs.declared.AccessKind.the-variants.{Fetch, Store}
+use Rattle.machine.specs.declared.KeyInstruction.the-variants.{Isk, Ssk, Rrb, Iske, Sske, Rrbe}
+use Rattle.machine.specs.declared.PrefixInstruction.the-variants.{SetPrefix, StorePrefix}
+use Rattle.machine.specs.declared.Answer.the-variants.{Refused}
+use Rattle.machine.specs.declared.Reason.the-variants.{Configuration}
+use Rattle.machine.specs.Numbers.{own, written}
+use Rattle.machine.specs.Answers.{Values, values}
+use Rattle.machine.specs.Step.{Outcome, step}
+
+-- a bit with the value v in a number
+abbrev pub bit : ℕ → ℕ → Bool
+bit v n = eqb (n / v % 2) 1
+
+-- settings: 1 the 4K facility, 2 the extensions. Every other bit must be zero
+abbrev pub settingsOf : ℕ → Settings
+settingsOf w = record { «four_k» = bit 1 w; extensions = bit 2 w }
+
+-- A record in eight bytes: the PSW key; controls, 1 problem state, 2 CR0 bit 3, 4 CR0 bit 7; the condition code; a zero; the prefix in four
+-- bytes, the least first. Where another control bit or the fourth byte isn't zero, the PSW key is taken for 255, which line 65 refuses.
+abbrev pub reservedZero : ℕ → ℕ → Bool
+reservedZero controls fourth = ltb controls 8 && eqb fourth 0
+
+abbrev pub recordAt : List ℕ → ℕ → Processor
+recordAt bytes at =
+    record {
+      key = cond (reservedZero (getD bytes (at + 1) 0) (getD bytes (at + 3) 0)) (getD bytes at 0) 255;
+      problem = bit 1 (getD bytes (at + 1) 0);
+      «low_protection» = bit 2 (getD bytes (at + 1) 0);
+      «key_control» = bit 4 (getD bytes (at + 1) 0);
+      prefix = getD bytes (at + 4) 0 + getD bytes (at + 5) 0 * 256 + getD bytes (at + 6) 0 * 65536 + getD bytes (at + 7) 0 * 16777216;
+      code = getD bytes (at + 2) 0;
+    }
+
+abbrev pub value : Bool → ℕ → ℕ
+value b v = cond b v 0
+
+-- the eight bytes of a record
+abbrev pub recordBytes : Processor → List ℕ
+recordBytes p =
+    p .key
+    ∷ (value (p .problem) 1 + value (p .«low_protection») 2 + value (p .«key_control») 4)
+    ∷ p .code
+    ∷ 0
+    ∷ (p .prefix % 256)
+    ∷ (p .prefix / 256 % 256)
+    ∷ (p .prefix / 65536 % 256)
+    ∷ (p .prefix / 16777216 % 256)
+    ∷ []
+
+-- the pair of records: sixteen bytes, processor 0's first. Of another number of bytes nothing is read: the processor number is then
+-- taken for 2, which line 65 refuses
+abbrev pub sixteen : List ℕ → Bool
+sixteen bytes = eqb (length bytes) 16
+
+abbrev pub pairOf : List ℕ → List Processor
+pairOf bytes = recordAt bytes 0 ∷ recordAt bytes 8 ∷ []
+
+abbrev pub processorOf : List ℕ → ℕ → ℕ
+processorOf bytes n = cond (sixteen bytes) n 2
+
+-- the requests with operands a and b, by the number of the operation
+abbrev pub requests : ℕ → ℕ → List Request
+requests a b =
+    Access Fetch a b
+    ∷ Access Store a b
+    ∷ Key (Isk a b)
+    ∷ Key (Ssk a b)
+    ∷ Key (Rrb b)
+    ∷ Key (Iske a b)
+    ∷ Key (Sske a b)
+    ∷ Key (Rrbe b)
+    ∷ Prefix (SetPrefix a)
+    ∷ Prefix StorePrefix
+    ∷ []
+
+-- any other number is taken for an access of length 0, which line 66 refuses
+abbrev pub requestOf : ℕ → ℕ → ℕ → Request
+requestOf operation a b = getD (requests a b) operation (Access Fetch 0 0)
+
+-- an answer in one number: the word, the place in sixteen bits from 2^32 on, the number from 2^48 on
+abbrev pub packed : Values → ℕ
+packed v = v .number * 281474976710656 + v .place % 65536 * 4294967296 + v .word
+
+-- what a call leaves: its answer, storage, key array, the bytes of the records, its buffer
+pub record Left : Type 0 where
+  pub answer : ℕ
+  pub storage : List ℕ
+  pub keys : List ℕ
+  pub records : List ℕ
+  pub buffer : List ℕ
+
+abbrev pub left : ℕ → List ℕ → List ℕ → List ℕ → List ℕ → Left
+left answer storage keys records buffer = record { answer = answer; storage = storage; keys = keys; records = records; buffer = buffer }
+
+-- a completed request writes the eight bytes of its own processor's record; no other byte of the records changes
+unfoldable pub recordsLeft : ℕ → List ℕ → ℕ → List Processor → List ℕ
+recordsLeft number records n ps =
+    cond (eqb number 0) (written records (λ i. n * 8 + i) (λ i. getD (recordBytes (own ps n)) i 0) 8) records
+
+abbrev pub leftBy : List ℕ → ℕ → Outcome → Left
+leftBy records n o = left (packed (o .answer)) (o .storage) (o .keys) (recordsLeft (o .answer .number) records n (o .processors)) (o .buffer)
+
+-- the call: settings with another bit on are refused by line 64; else it is the step
+unfoldable pub called : ℕ → List ℕ → List ℕ → List ℕ → ℕ → ℕ → ℕ → ℕ → List ℕ → Left
+called settings storage keys records n operation a b buffer =
+    cond (ltb settings 4)
+    (leftBy records (processorOf records n) (step (settingsOf settings) storage keys (pairOf records) (processorOf records n) (requestOf operation a b) buffer))
+    (left (packed (values (Refused Configuration 0))) storage keys records buffer)

@@ -1,0 +1,2 @@
+-- What the boundary means: numbers and bytes as settings, records, requests and answers.
+pub mod Boundary

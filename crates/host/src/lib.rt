@@ -1,0 +1,112 @@
+// The boundary for programs in C, Rust and other languages: numbers and byte slices only. Nothing is asked of the caller: whatever the
+// numbers and bytes are, the call ends with an answer of the table, and one that is not completed changes nothing.
+mod record;
+mod request;
+
+use crate::record::put_record;
+use crate::record::record_at;
+use crate::record::settings_of;
+use crate::request::pack;
+use crate::request::request_of;
+use machine::Answer;
+use machine::Processor;
+use machine::Reason;
+use machine::Request;
+use machine::Settings;
+use machine::numbers::own;
+ghost use mathlib.Core.Path.{_≡_};
+ghost use Prim.Native.Nat.{ℕ};
+ghost use mathlib.Core.List.{List};
+ghost use lib.ListN.{length};
+ghost use Rattle.machine.specs.Step.{step};
+ghost use Rattle.host.specs.Boundary.{pairOf, left, leftBy, called};
+
+// A request over sixteen bytes of records. A completed one writes its own processor's record.
+fn with_records(
+    settings: Settings,
+    storage: &mut [u8],
+    keys: &mut [u8],
+    records: &mut [u8],
+    number: usize,
+    asked: Request,
+    buffer: &mut [u8],
+) -> u64
+    requires { ⌜ length (now records) ≡ 16 ⌝ }
+    ensures { λ r. ⌜ left r (now (storage .exit)) (now (keys .exit)) (now (records .exit)) (now (buffer .exit)) ≡ leftBy (now (records .entry)) number (step settings (now (storage .entry)) (now (keys .entry)) (pairOf (now (records .entry))) number asked (now (buffer .entry))) ⌝ }
+{
+    let processors = [record_at(&records[..], 0), record_at(&records[..], 8)];
+    let reply = storage_unit::request(settings, storage, keys, processors, number, asked, buffer);
+    let answer = reply.answer;
+    let after = reply.processors;
+    match answer {
+        Answer::Completed { word } => {
+            put_record(records, number * 8, own(after, number));
+            pack(Answer::Completed { word })
+        }
+        Answer::Refused { reason, place } => pack(Answer::Refused { reason, place }),
+    }
+}
+
+// A request of a processor whose number is not 0 or 1: no record is read or written.
+fn without_records(
+    settings: Settings,
+    storage: &mut [u8],
+    keys: &mut [u8],
+    asked: Request,
+    buffer: &mut [u8],
+) -> u64
+    ensures { λ r. ⌜ ((records : List ℕ) (ps : List Processor) → left r (now (storage .exit)) (now (keys .exit)) records (now (buffer .exit)) ≡ leftBy records 2 (step settings (now (storage .entry)) (now (keys .entry)) ps 2 asked (now (buffer .entry)))) ⌝ }
+{
+    let none = Processor {
+        key: 0,
+        problem: false,
+        low_protection: false,
+        key_control: false,
+        prefix: 0,
+        code: 0,
+    };
+    let reply = storage_unit::request(settings, storage, keys, [none, none], 2, asked, buffer);
+    let answer = reply.answer;
+    pack(answer)
+}
+
+// One request for one processor. `settings`: 1 the 4K facility, 2 the extensions. `records`: sixteen bytes, eight for each processor.
+// `operation`: 0 fetch, 1 store, 2 ISK, 3 SSK, 4 RRB, 5 ISKE, 6 SSKE, 7 RRBE, 8 SET PREFIX, 9 STORE PREFIX. `first`: the real address of an
+// access, R1, or the word of SET PREFIX. `second`: the length of an access, R2, or the address of RRB. The result has the word in bits 0 to
+// 31 from the right, the place in bits 32 to 47 and the number in bits 48 to 63.
+#[no_mangle]
+pub extern "C" fn storage_unit_request(
+    settings: u32,
+    storage: &mut [u8],
+    keys: &mut [u8],
+    records: &mut [u8],
+    processor: u32,
+    operation: u32,
+    first: u32,
+    second: u32,
+    buffer: &mut [u8],
+) -> u64
+    ensures { λ r. ⌜ left r (now (storage .exit)) (now (keys .exit)) (now (records .exit)) (now (buffer .exit)) ≡ called settings (now (storage .entry)) (now (keys .entry)) (now (records .entry)) processor operation first second (now (buffer .entry)) ⌝ }
+{
+    if 4 <= settings {
+        return pack(Answer::Refused {
+            reason: Reason::Configuration,
+            place: 0,
+        });
+    }
+    let machine = settings_of(settings);
+    let asked = request_of(operation, first, second);
+    if records.len() == 16 {
+        with_records(
+            machine,
+            storage,
+            keys,
+            records,
+            processor as usize,
+            asked,
+            buffer,
+        )
+    } else {
+        without_records(machine, storage, keys, asked, buffer)
+    }
+}

@@ -1,0 +1,82 @@
+// Requests and answers as numbers.
+use machine::AccessKind;
+use machine::Answer;
+use machine::KeyInstruction;
+use machine::PrefixInstruction;
+use machine::Reason;
+use machine::Request;
+ghost use mathlib.Core.Path.{_≡_};
+ghost use Rattle.machine.specs.Answers.{number, values};
+ghost use Rattle.host.specs.Boundary.{requestOf, packed};
+
+// The request with this operation number and operands.
+pub(crate) fn request_of(operation: u32, first: u32, second: u32) -> Request
+    ensures { λ r. ⌜ r ≡ requestOf operation first second ⌝ }
+{
+    match operation {
+        0 => Request::Access {
+            kind: AccessKind::Fetch,
+            start: first,
+            count: second,
+        },
+        1 => Request::Access {
+            kind: AccessKind::Store,
+            start: first,
+            count: second,
+        },
+        2 => Request::Key(KeyInstruction::Isk {
+            r1: first,
+            r2: second,
+        }),
+        3 => Request::Key(KeyInstruction::Ssk {
+            r1: first,
+            r2: second,
+        }),
+        4 => Request::Key(KeyInstruction::Rrb { address: second }),
+        5 => Request::Key(KeyInstruction::Iske {
+            r1: first,
+            r2: second,
+        }),
+        6 => Request::Key(KeyInstruction::Sske {
+            r1: first,
+            r2: second,
+        }),
+        7 => Request::Key(KeyInstruction::Rrbe { r2: second }),
+        8 => Request::Prefix(PrefixInstruction::SetPrefix { word: first }),
+        9 => Request::Prefix(PrefixInstruction::StorePrefix),
+        _ => Request::Access {
+            kind: AccessKind::Fetch,
+            start: 0,
+            count: 0,
+        },
+    }
+}
+
+// The number of the table for a reason.
+fn number_of(reason: Reason) -> u64
+    ensures { λ r. ⌜ r ≡ number reason ⌝ }
+{
+    match reason {
+        Reason::Configuration => 64,
+        Reason::Record => 65,
+        Reason::Operand => 66,
+        Reason::Operation => 1,
+        Reason::Privileged => 2,
+        Reason::SpecialOperation => 19,
+        Reason::Specification => 6,
+        Reason::Addressing => 5,
+        Reason::AbsoluteAddress => 67,
+        Reason::Protection => 4,
+    }
+}
+
+// The answer in one number.
+pub(crate) fn pack(answer: Answer) -> u64
+    ensures { λ r. ⌜ r ≡ packed (values answer) ⌝ }
+{
+    match answer {
+        Answer::Completed { word } => word as u64,
+        Answer::Refused { reason, place } => number_of(reason) * 281474976710656
+            + place as u64 % 65536 * 4294967296,
+    }
+}

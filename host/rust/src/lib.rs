@@ -1,0 +1,393 @@
+//! Typed access to the storage unit of an emulated System/370.
+//!
+//! The storage unit works on storage and storage keys that the caller lends to
+//! it, together with the records of two processors. Each call takes one request
+//! for one processor and gives one [`Answer`]. The requests are fetch and store,
+//! the six storage-key instructions, SET PREFIX and STORE PREFIX.
+//!
+//! The rules come from document 01 of the project, which rests on the IBM
+//! System/370 Principles of Operation, GA22-7000. Bits are numbered as in that
+//! manual: bit 0 is the leftmost.
+//!
+//! # Implementations
+//!
+//! | Item | What it is |
+//! |---|---|
+//! | `request`, `proved::Proved` | the proved unit, called in the static library through its C function |
+//! | [`reference`](mod@reference) | document 01 written down byte by byte, for comparison |
+//! | [`plain`] | ordinary hand-written Rust, for comparison of speed |
+//!
+//! The proved unit is there when the build found the static library; see
+//! [`PROVED_UNIT_LINKED`]. All three have a function `request` with the same
+//! parameters, and all three implement [`Unit`].
+//!
+//! # Example
+//!
+//! ```
+//! // Where the static library is missing, the example runs on the reference.
+//! #[cfg(not(proved_unit))]
+//! use storage_unit::reference::request;
+//! #[cfg(proved_unit)]
+//! use storage_unit::request;
+//! use storage_unit::{KeyInstruction, Number, Processor, Request, Settings};
+//!
+//! let settings = Settings { four_k: false, extensions: true };
+//! let mut storage = vec![0; 65_536];
+//! let mut keys = vec![0; settings.key_count(65_536)];
+//! let mut processors = [Processor::default(); 2];
+//!
+//! // Processor 0 stores four bytes at real address 8192.
+//! let mut buffer = *b"\x01\x02\x03\x04";
+//! let answer = request(
+//!     settings,
+//!     &mut storage,
+//!     &mut keys,
+//!     &mut processors,
+//!     0,
+//!     &Request::store(8192, 4),
+//!     &mut buffer,
+//! );
+//! assert_eq!(answer.number, Number::Completed);
+//! assert_eq!(storage[8192..8196], buffer);
+//!
+//! // Processor 1 inserts the key of that block: reference and change bits are on.
+//! let answer = request(
+//!     settings,
+//!     &mut storage,
+//!     &mut keys,
+//!     &mut processors,
+//!     1,
+//!     &Request::Key(KeyInstruction::Isk { r1: 0x1234_5678, r2: 8192 }),
+//!     &mut [],
+//! );
+//! assert_eq!(answer.number, Number::Completed);
+//! assert_eq!(answer.word, 0x1234_5606);
+//! ```
+
+#![deny(missing_docs)]
+#![deny(unsafe_op_in_unsafe_fn)]
+#![warn(clippy::undocumented_unsafe_blocks)]
+
+pub mod boundary;
+pub mod plain;
+#[cfg(proved_unit)]
+pub mod proved;
+pub mod reference;
+
+#[cfg(proved_unit)]
+pub use proved::request;
+
+/// Whether the build found the static library of the proved unit.
+///
+/// When it is `false`, the function `request` and the module `proved` are not
+/// part of this crate.
+pub const PROVED_UNIT_LINKED: bool = cfg!(proved_unit);
+
+/// The settings of the machine, the same for both processors.
+#[derive(Clone, Copy, Debug, Default, PartialEq, Eq, Hash)]
+pub struct Settings {
+    /// The storage-key 4K-byte-block facility is present: one key for each
+    /// 4,096 bytes instead of one for each 2,048 bytes.
+    pub four_k: bool,
+    /// The storage-key-instruction extensions are present: ISKE, SSKE and RRBE.
+    pub extensions: bool,
+}
+
+impl Settings {
+    /// The number of storage bytes that share one key.
+    ///
+    /// ```
+    /// use storage_unit::Settings;
+    /// assert_eq!(Settings { four_k: false, extensions: true }.key_unit(), 2048);
+    /// assert_eq!(Settings { four_k: true, extensions: true }.key_unit(), 4096);
+    /// ```
+    #[inline]
+    pub const fn key_unit(self) -> usize {
+        if self.four_k {
+            4096
+        } else {
+            2048
+        }
+    }
+
+    /// The number of keys that belong to a storage of `storage_length` bytes.
+    ///
+    /// ```
+    /// use storage_unit::Settings;
+    /// assert_eq!(Settings { four_k: false, extensions: true }.key_count(65_536), 32);
+    /// ```
+    #[inline]
+    pub const fn key_count(self, storage_length: usize) -> usize {
+        storage_length / self.key_unit()
+    }
+}
+
+/// The record of one processor.
+///
+/// The fields can hold values that no processor has. A request for a processor
+/// with such a record is refused with [`Number::BadProcessor`].
+#[derive(Clone, Copy, Debug, Default, PartialEq, Eq, Hash)]
+pub struct Processor {
+    /// The PSW key, 0 to 15.
+    pub key: u8,
+    /// The processor is in the problem state; otherwise in the supervisor state.
+    pub problem: bool,
+    /// Bit 3 of control register 0: low-address protection is on.
+    pub low_protection: bool,
+    /// Bit 7 of control register 0: the storage-key-exception control is one.
+    pub key_control: bool,
+    /// The prefix, a multiple of 4,096 below the storage length.
+    pub prefix: u32,
+    /// The condition code, 0 to 3.
+    pub code: u8,
+}
+
+/// The two ways to access storage.
+#[derive(Clone, Copy, Debug, PartialEq, Eq, Hash)]
+pub enum AccessKind {
+    /// Bytes go from storage to the buffer.
+    Fetch,
+    /// Bytes go from the buffer to storage.
+    Store,
+}
+
+/// One of the six storage-key instructions with its operands.
+#[derive(Clone, Copy, Debug, PartialEq, Eq, Hash)]
+pub enum KeyInstruction {
+    /// INSERT STORAGE KEY. The answer's word is the new content of R1.
+    Isk {
+        /// The content of general register R1.
+        r1: u32,
+        /// The content of general register R2; bits 8-20 designate a 2K block.
+        r2: u32,
+    },
+    /// SET STORAGE KEY.
+    Ssk {
+        /// The content of general register R1; bits 24-30 are the new key.
+        r1: u32,
+        /// The content of general register R2; bits 8-20 designate a 2K block.
+        r2: u32,
+    },
+    /// RESET REFERENCE BIT.
+    Rrb {
+        /// The real address; bits 21-31 are ignored.
+        address: u32,
+    },
+    /// INSERT STORAGE KEY EXTENDED. The answer's word is the new content of R1.
+    Iske {
+        /// The content of general register R1.
+        r1: u32,
+        /// The content of general register R2; bits 1-19 designate a 4K block.
+        r2: u32,
+    },
+    /// SET STORAGE KEY EXTENDED.
+    Sske {
+        /// The content of general register R1; bits 24-30 are the new key.
+        r1: u32,
+        /// The content of general register R2; bits 1-19 designate a 4K block.
+        r2: u32,
+    },
+    /// RESET REFERENCE BIT EXTENDED.
+    Rrbe {
+        /// The content of general register R2; bits 1-19 designate a 4K block.
+        r2: u32,
+    },
+}
+
+/// One of the two prefix instructions.
+#[derive(Clone, Copy, Debug, PartialEq, Eq, Hash)]
+pub enum PrefixInstruction {
+    /// SET PREFIX.
+    SetPrefix {
+        /// The operand; bits 8-19 are the new prefix, the others are ignored.
+        word: u32,
+    },
+    /// STORE PREFIX. The answer's word is the prefix.
+    StorePrefix,
+}
+
+/// A request to the storage unit.
+#[derive(Clone, Copy, Debug, PartialEq, Eq, Hash)]
+pub enum Request {
+    /// A fetch or a store.
+    Access {
+        /// Fetch or store.
+        kind: AccessKind,
+        /// The real address of the first byte, below 16,777,216.
+        address: u32,
+        /// The number of bytes, 1 to 256.
+        length: u32,
+    },
+    /// A storage-key instruction.
+    Key(KeyInstruction),
+    /// A prefix instruction.
+    Prefix(PrefixInstruction),
+}
+
+impl Request {
+    /// A fetch of `length` bytes from real address `address`.
+    #[inline]
+    pub const fn fetch(address: u32, length: u32) -> Self {
+        Request::Access {
+            kind: AccessKind::Fetch,
+            address,
+            length,
+        }
+    }
+
+    /// A store of `length` bytes to real address `address`.
+    #[inline]
+    pub const fn store(address: u32, length: u32) -> Self {
+        Request::Access {
+            kind: AccessKind::Store,
+            address,
+            length,
+        }
+    }
+}
+
+/// The numbers an answer can carry.
+///
+/// Program exceptions have the interruption codes and the names of the manual.
+#[derive(Clone, Copy, Debug, PartialEq, Eq, PartialOrd, Ord, Hash)]
+#[repr(u16)]
+pub enum Number {
+    /// 0: the request is completed.
+    Completed = 0,
+    /// 1: operation exception. The extensions are not present.
+    Operation = 1,
+    /// 2: privileged-operation exception. The processor is in the problem state.
+    PrivilegedOperation = 2,
+    /// 4: protection exception. A byte of the access is forbidden.
+    Protection = 4,
+    /// 5: addressing exception. An address lies outside storage.
+    Addressing = 5,
+    /// 6: specification exception. Bits 28-31 of R2 are not all zero.
+    Specification = 6,
+    /// 19, hex 13: special-operation exception. With the 4K facility, ISK, SSK
+    /// and RRB need bit 7 of control register 0.
+    SpecialOperation = 19,
+    /// 64: the length of the storage or of the key array is wrong.
+    BadLengths = 64,
+    /// 65: there is no such processor, or its record is damaged.
+    BadProcessor = 65,
+    /// 66: an access length, an address or the length of the buffer is wrong.
+    BadRequest = 66,
+    /// 67: a real address is inside storage and its absolute address is outside.
+    /// No state gives this number, since a prefix outside storage gives 65.
+    AbsoluteOutside = 67,
+}
+
+impl Number {
+    /// Every number, in the order of the codes.
+    pub const ALL: [Number; 11] = [
+        Number::Completed,
+        Number::Operation,
+        Number::PrivilegedOperation,
+        Number::Protection,
+        Number::Addressing,
+        Number::Specification,
+        Number::SpecialOperation,
+        Number::BadLengths,
+        Number::BadProcessor,
+        Number::BadRequest,
+        Number::AbsoluteOutside,
+    ];
+
+    /// The number itself.
+    ///
+    /// ```
+    /// use storage_unit::Number;
+    /// assert_eq!(Number::SpecialOperation.code(), 0x13);
+    /// ```
+    #[inline]
+    pub const fn code(self) -> u16 {
+        self as u16
+    }
+
+    /// The meaning of a number, or `None` if document 01 has no such number.
+    ///
+    /// ```
+    /// use storage_unit::Number;
+    /// assert_eq!(Number::from_code(5), Some(Number::Addressing));
+    /// assert_eq!(Number::from_code(3), None);
+    /// ```
+    #[inline]
+    pub const fn from_code(code: u16) -> Option<Number> {
+        Some(match code {
+            0 => Number::Completed,
+            1 => Number::Operation,
+            2 => Number::PrivilegedOperation,
+            4 => Number::Protection,
+            5 => Number::Addressing,
+            6 => Number::Specification,
+            19 => Number::SpecialOperation,
+            64 => Number::BadLengths,
+            65 => Number::BadProcessor,
+            66 => Number::BadRequest,
+            67 => Number::AbsoluteOutside,
+            _ => return None,
+        })
+    }
+}
+
+/// The answer to a request.
+#[derive(Clone, Copy, Debug, PartialEq, Eq, Hash)]
+pub struct Answer {
+    /// What happened. With any number but [`Number::Completed`], nothing lent
+    /// and neither record has changed.
+    pub number: Number,
+    /// For [`Number::Addressing`], [`Number::AbsoluteOutside`] and
+    /// [`Number::Protection`] of an access, the offset of the first byte
+    /// concerned; otherwise zero.
+    pub place: u16,
+    /// The result of a completed ISK, ISKE or STORE PREFIX; otherwise zero.
+    pub word: u32,
+}
+
+impl Answer {
+    /// The answer of a completed request with this word.
+    #[inline]
+    pub const fn completed(word: u32) -> Self {
+        Answer {
+            number: Number::Completed,
+            place: 0,
+            word,
+        }
+    }
+
+    /// The answer of a refused request.
+    #[inline]
+    pub const fn refused(number: Number, place: u16) -> Self {
+        Answer {
+            number,
+            place,
+            word: 0,
+        }
+    }
+}
+
+/// An implementation of the storage unit.
+///
+/// The proved unit, the reference and the plain implementation have it, so that
+/// the same tests and measurements run on each.
+pub trait Unit {
+    /// The name of the implementation, for messages.
+    const NAME: &'static str;
+
+    /// Carries out one request for one processor.
+    ///
+    /// `storage` and `keys` are the storage and its keys, `processors` the two
+    /// records, `processor` the number of the processor that asks. A fetch writes
+    /// the first bytes of `buffer`, a store reads them; the other requests do not
+    /// use it.
+    fn request(
+        settings: Settings,
+        storage: &mut [u8],
+        keys: &mut [u8],
+        processors: &mut [Processor; 2],
+        processor: u32,
+        request: &Request,
+        buffer: &mut [u8],
+    ) -> Answer;
+}

@@ -1,0 +1,408 @@
+//! The storage unit as ordinary Rust, for comparison of speed.
+//!
+//! An access is split where it passes from one key unit to the next, each part is
+//! checked once, and the bytes are copied as slices.
+
+use crate::{
+    boundary, AccessKind, Answer, KeyInstruction, Number, PrefixInstruction, Processor, Request,
+    Settings, Unit,
+};
+
+const PAGE: usize = 4096;
+const MAXIMUM_STORAGE: usize = 1 << 24;
+const ADDRESS_MASK: u32 = 0x00FF_FFFF;
+const PAGE_MASK: u32 = 0x7FFF_F000;
+
+const FETCH_PROTECTION: u8 = 0x08;
+const REFERENCE: u8 = 0x04;
+const CHANGE: u8 = 0x02;
+const UNUSED: u8 = 0x01;
+
+/// The end of the real addresses that low-address protection covers.
+const LOW_END: u32 = 512;
+
+/// The absolute address of a real address.
+#[inline]
+fn prefixed(real: u32, prefix: u32) -> u32 {
+    let page = real & PAGE_MASK;
+    if page == 0 {
+        real | prefix
+    } else if page == prefix {
+        real & !PAGE_MASK
+    } else {
+        real
+    }
+}
+
+/// The number of bits in the offset within a key unit.
+#[inline]
+fn unit_shift(settings: Settings) -> u32 {
+    if settings.four_k {
+        12
+    } else {
+        11
+    }
+}
+
+/// Carries out one request for one processor; the parameters are those of
+/// [`Unit::request`].
+#[inline]
+pub fn request(
+    settings: Settings,
+    storage: &mut [u8],
+    keys: &mut [u8],
+    processors: &mut [Processor; 2],
+    processor: u32,
+    request: &Request,
+    buffer: &mut [u8],
+) -> Answer {
+    let own = processors.get_mut(processor as usize);
+    request_with_record(settings, storage, keys, own, request, buffer)
+}
+
+/// Carries out one request for the processor with this record, or for none if the
+/// number of the processor is wrong.
+#[inline]
+fn request_with_record(
+    settings: Settings,
+    storage: &mut [u8],
+    keys: &mut [u8],
+    own: Option<&mut Processor>,
+    request: &Request,
+    buffer: &mut [u8],
+) -> Answer {
+    let length = storage.len();
+    if length == 0
+        || length > MAXIMUM_STORAGE
+        || !length.is_multiple_of(PAGE)
+        || keys.len() != length >> unit_shift(settings)
+    {
+        return Answer::refused(Number::BadLengths, 0);
+    }
+    let Some(own) = own else {
+        return Answer::refused(Number::BadProcessor, 0);
+    };
+    if own.key > 15
+        || own.code > 3
+        || !(own.prefix as usize).is_multiple_of(PAGE)
+        || own.prefix as usize >= length
+    {
+        return Answer::refused(Number::BadProcessor, 0);
+    }
+    match *request {
+        Request::Access {
+            kind,
+            address,
+            length,
+        } => access(
+            settings,
+            storage,
+            keys,
+            own,
+            kind,
+            (address, length),
+            buffer,
+        ),
+        Request::Key(instruction) => {
+            key_instruction(settings, storage.len(), keys, own, instruction)
+        }
+        Request::Prefix(instruction) => prefix_instruction(storage.len(), own, instruction),
+    }
+}
+
+/// The part of an access that lies in one key unit.
+struct Part {
+    real: u32,
+    absolute: usize,
+    unit: usize,
+    length: usize,
+}
+
+impl Part {
+    #[inline]
+    fn new(settings: Settings, own: &Processor, real: u32, length: usize) -> Part {
+        let absolute = prefixed(real, own.prefix) as usize;
+        Part {
+            real,
+            absolute,
+            unit: absolute >> unit_shift(settings),
+            length,
+        }
+    }
+
+    /// Whether the processor may access the part. If it may not, its first byte is
+    /// forbidden.
+    #[inline]
+    fn permitted(&self, keys: &[u8], own: &Processor, kind: AccessKind) -> bool {
+        let key = keys[self.unit];
+        let keys_match = own.key == 0 || own.key == key >> 4;
+        match kind {
+            AccessKind::Fetch => keys_match || key & FETCH_PROTECTION == 0,
+            AccessKind::Store => keys_match && !(own.low_protection && self.real < LOW_END),
+        }
+    }
+
+    /// Copies the bytes of the part and records the access in the key.
+    #[inline]
+    fn perform(&self, storage: &mut [u8], keys: &mut [u8], kind: AccessKind, buffer: &mut [u8]) {
+        let bytes = &mut storage[self.absolute..self.absolute + self.length];
+        let key = &mut keys[self.unit];
+        match kind {
+            AccessKind::Fetch => {
+                buffer.copy_from_slice(bytes);
+                *key = *key & !UNUSED | REFERENCE;
+            }
+            AccessKind::Store => {
+                bytes.copy_from_slice(buffer);
+                *key = *key & !UNUSED | REFERENCE | CHANGE;
+            }
+        }
+    }
+}
+
+#[inline]
+fn access(
+    settings: Settings,
+    storage: &mut [u8],
+    keys: &mut [u8],
+    own: &Processor,
+    kind: AccessKind,
+    (address, length): (u32, u32),
+    buffer: &mut [u8],
+) -> Answer {
+    let count = length as usize;
+    if count == 0 || count > 256 || address > ADDRESS_MASK || buffer.len() < count {
+        return Answer::refused(Number::BadRequest, 0);
+    }
+    let start = address as usize;
+    if start >= storage.len() {
+        return Answer::refused(Number::Addressing, 0);
+    }
+    // In a storage of the full size an access past the end goes on at address 0.
+    if start + count > storage.len() && storage.len() < MAXIMUM_STORAGE {
+        return Answer::refused(Number::Addressing, (storage.len() - start) as u16);
+    }
+
+    let buffer = &mut buffer[..count];
+    let unit = settings.key_unit();
+    let room = unit - start % unit;
+    if count <= room {
+        let part = Part::new(settings, own, address, count);
+        if !part.permitted(keys, own, kind) {
+            return Answer::refused(Number::Protection, 0);
+        }
+        part.perform(storage, keys, kind, buffer);
+    } else {
+        let second_address = (address + room as u32) & ADDRESS_MASK;
+        let first = Part::new(settings, own, address, room);
+        let second = Part::new(settings, own, second_address, count - room);
+        if !first.permitted(keys, own, kind) {
+            return Answer::refused(Number::Protection, 0);
+        }
+        if !second.permitted(keys, own, kind) {
+            return Answer::refused(Number::Protection, room as u16);
+        }
+        let (first_bytes, second_bytes) = buffer.split_at_mut(room);
+        first.perform(storage, keys, kind, first_bytes);
+        second.perform(storage, keys, kind, second_bytes);
+    }
+    Answer::completed(0)
+}
+
+#[inline]
+fn key_instruction(
+    settings: Settings,
+    length: usize,
+    keys: &mut [u8],
+    own: &mut Processor,
+    instruction: KeyInstruction,
+) -> Answer {
+    let (real, extended) = match instruction {
+        KeyInstruction::Isk { r2, .. } | KeyInstruction::Ssk { r2, .. } => {
+            (r2 & ADDRESS_MASK, false)
+        }
+        KeyInstruction::Rrb { address } => {
+            if address > ADDRESS_MASK {
+                return Answer::refused(Number::BadRequest, 0);
+            }
+            (address, false)
+        }
+        KeyInstruction::Iske { r2, .. }
+        | KeyInstruction::Sske { r2, .. }
+        | KeyInstruction::Rrbe { r2 } => (r2 & PAGE_MASK, true),
+    };
+    if extended && !settings.extensions {
+        return Answer::refused(Number::Operation, 0);
+    }
+    if own.problem {
+        return Answer::refused(Number::PrivilegedOperation, 0);
+    }
+    if !extended && settings.four_k && !own.key_control {
+        return Answer::refused(Number::SpecialOperation, 0);
+    }
+    if let KeyInstruction::Isk { r2, .. } | KeyInstruction::Ssk { r2, .. } = instruction {
+        if r2 & 0xF != 0 {
+            return Answer::refused(Number::Specification, 0);
+        }
+    }
+    if real as usize >= length {
+        return Answer::refused(Number::Addressing, 0);
+    }
+
+    let first = (prefixed(real, own.prefix) >> unit_shift(settings)) as usize;
+    let count = if extended && !settings.four_k { 2 } else { 1 };
+    let keys = &mut keys[first..first + count];
+    match instruction {
+        KeyInstruction::Isk { r1, .. } | KeyInstruction::Iske { r1, .. } => {
+            let recorded = keys.iter().fold(0, |bits, key| bits | key) & (REFERENCE | CHANGE);
+            let key = keys[0] & !UNUSED | recorded;
+            Answer::completed(r1 & !0xFF | u32::from(key))
+        }
+        KeyInstruction::Ssk { r1, .. } | KeyInstruction::Sske { r1, .. } => {
+            keys.fill(r1 as u8 & !UNUSED);
+            Answer::completed(0)
+        }
+        KeyInstruction::Rrb { .. } | KeyInstruction::Rrbe { .. } => {
+            own.code = (keys[0] & (REFERENCE | CHANGE)) >> 1;
+            for key in keys {
+                *key &= !(REFERENCE | UNUSED);
+            }
+            Answer::completed(0)
+        }
+    }
+}
+
+#[inline]
+fn prefix_instruction(
+    length: usize,
+    own: &mut Processor,
+    instruction: PrefixInstruction,
+) -> Answer {
+    if own.problem {
+        return Answer::refused(Number::PrivilegedOperation, 0);
+    }
+    match instruction {
+        PrefixInstruction::SetPrefix { word } => {
+            let prefix = word & 0x00FF_F000;
+            if prefix as usize >= length {
+                return Answer::refused(Number::Addressing, 0);
+            }
+            own.prefix = prefix;
+            Answer::completed(0)
+        }
+        PrefixInstruction::StorePrefix => Answer::completed(own.prefix),
+    }
+}
+
+/// The plain implementation behind a C function like that of the proved unit.
+///
+/// It is there so that both can be called and measured in the same way.
+///
+/// # Safety
+///
+/// Each pointer must be valid for reads and writes of as many bytes as the length
+/// that follows it, also when the length is zero, and these ranges must not
+/// overlap. The records have 16 bytes with the unused flags and the reserved bytes
+/// zero, the unused bits of the settings are zero, and the operation is 0 to 9.
+#[no_mangle]
+#[inline(never)]
+#[allow(clippy::too_many_arguments)]
+pub unsafe extern "C" fn storage_unit_request_plain(
+    settings: u32,
+    storage: *mut u8,
+    storage_len: usize,
+    keys: *mut u8,
+    keys_len: usize,
+    processors: *mut u8,
+    processors_len: usize,
+    processor: u32,
+    operation: u32,
+    first: u32,
+    second: u32,
+    buffer: *mut u8,
+    buffer_len: usize,
+) -> u64 {
+    // SAFETY: the caller gives valid ranges that do not overlap.
+    let (storage, keys, records, buffer) = unsafe {
+        (
+            std::slice::from_raw_parts_mut(storage, storage_len),
+            std::slice::from_raw_parts_mut(keys, keys_len),
+            std::slice::from_raw_parts_mut(processors, processors_len),
+            std::slice::from_raw_parts_mut(buffer, buffer_len),
+        )
+    };
+    assert_eq!(records.len(), boundary::PROCESSORS_LENGTH);
+    let request =
+        boundary::decode_request(operation, first, second).expect("the operation number is 0 to 9");
+    let (records, _) = records.as_chunks_mut();
+    let record = records.get_mut(processor as usize);
+    let mut own = record.as_deref().map(boundary::decode_processor);
+    let answer = request_with_record(
+        boundary::decode_settings(settings),
+        storage,
+        keys,
+        own.as_mut(),
+        &request,
+        buffer,
+    );
+    if let (Some(record), Some(own)) = (record, own) {
+        *record = boundary::encode_processor(&own);
+    }
+    boundary::encode_answer(answer)
+}
+
+/// The plain implementation, for code that is written for any [`Unit`].
+#[derive(Clone, Copy, Debug)]
+pub struct Plain;
+
+impl Unit for Plain {
+    const NAME: &'static str = "plain";
+
+    #[inline]
+    fn request(
+        settings: Settings,
+        storage: &mut [u8],
+        keys: &mut [u8],
+        processors: &mut [Processor; 2],
+        processor: u32,
+        request: &Request,
+        buffer: &mut [u8],
+    ) -> Answer {
+        self::request(
+            settings, storage, keys, processors, processor, request, buffer,
+        )
+    }
+}
+
+/// The plain implementation called through [`storage_unit_request_plain`].
+#[derive(Clone, Copy, Debug)]
+pub struct PlainBehindBoundary;
+
+impl Unit for PlainBehindBoundary {
+    const NAME: &'static str = "plain behind the C boundary";
+
+    #[inline]
+    fn request(
+        settings: Settings,
+        storage: &mut [u8],
+        keys: &mut [u8],
+        processors: &mut [Processor; 2],
+        processor: u32,
+        request: &Request,
+        buffer: &mut [u8],
+    ) -> Answer {
+        // SAFETY: the function keeps to the bytes it is given.
+        unsafe {
+            boundary::call(
+                storage_unit_request_plain,
+                settings,
+                storage,
+                keys,
+                processors,
+                processor,
+                request,
+                buffer,
+            )
+        }
+    }
+}

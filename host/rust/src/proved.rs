@@ -1,0 +1,117 @@
+//! The proved unit, called in the static library.
+//!
+//! This module is part of the crate when the build found the library.
+
+use crate::{boundary, Answer, Processor, Request, Settings, Unit};
+
+extern "C" {
+    /// The C function of the static library; see [`boundary::RawRequest`].
+    ///
+    /// # Safety
+    ///
+    /// Each pointer must be valid for reads and writes of as many bytes as the
+    /// length that follows it, also when the length is zero, and these ranges must
+    /// not overlap. The records have 16 bytes with the unused flags and the
+    /// reserved bytes zero, the unused bits of the settings are zero, and the
+    /// operation is 0 to 9.
+    pub fn storage_unit_request(
+        settings: u32,
+        storage: *mut u8,
+        storage_len: usize,
+        keys: *mut u8,
+        keys_len: usize,
+        processors: *mut u8,
+        processors_len: usize,
+        processor: u32,
+        operation: u32,
+        first: u32,
+        second: u32,
+        buffer: *mut u8,
+        buffer_len: usize,
+    ) -> u64;
+}
+
+/// Carries out one request for one processor.
+///
+/// `storage` is a multiple of 4,096 bytes, from 4,096 to 16,777,216, and `keys`
+/// has [`Settings::key_count`] bytes, one for each key unit by absolute address.
+/// `processors` holds the records of processors 0 and 1, and `processor` is the
+/// number of the one that asks. A fetch writes the first bytes of `buffer`, up to
+/// its length, and keeps the rest; a store reads the first bytes and ignores the
+/// rest; the other requests do not use `buffer`, which can be empty.
+///
+/// Values outside these limits are allowed and are answered with
+/// [`Number::BadLengths`](crate::Number::BadLengths),
+/// [`Number::BadProcessor`](crate::Number::BadProcessor) or
+/// [`Number::BadRequest`](crate::Number::BadRequest). With any number but
+/// [`Number::Completed`](crate::Number::Completed), nothing lent and neither
+/// record has changed.
+///
+/// ```
+/// use storage_unit::{request, Number, Processor, Request, Settings};
+///
+/// let settings = Settings { four_k: false, extensions: true };
+/// let mut storage = vec![0; 4096];
+/// let mut keys = vec![0; 2];
+/// let mut processors = [Processor::default(); 2];
+/// let mut buffer = [7; 8];
+/// let answer = request(
+///     settings,
+///     &mut storage,
+///     &mut keys,
+///     &mut processors,
+///     0,
+///     &Request::fetch(4094, 4),
+///     &mut buffer,
+/// );
+/// // The third byte is the first one outside storage.
+/// assert_eq!((answer.number, answer.place), (Number::Addressing, 2));
+/// assert_eq!(buffer, [7; 8]);
+/// ```
+#[inline]
+pub fn request(
+    settings: Settings,
+    storage: &mut [u8],
+    keys: &mut [u8],
+    processors: &mut [Processor; 2],
+    processor: u32,
+    request: &Request,
+    buffer: &mut [u8],
+) -> Answer {
+    // SAFETY: the static library has the function with this meaning.
+    unsafe {
+        boundary::call(
+            storage_unit_request,
+            settings,
+            storage,
+            keys,
+            processors,
+            processor,
+            request,
+            buffer,
+        )
+    }
+}
+
+/// The proved unit, for code that is written for any [`Unit`].
+#[derive(Clone, Copy, Debug)]
+pub struct Proved;
+
+impl Unit for Proved {
+    const NAME: &'static str = "proved";
+
+    #[inline]
+    fn request(
+        settings: Settings,
+        storage: &mut [u8],
+        keys: &mut [u8],
+        processors: &mut [Processor; 2],
+        processor: u32,
+        request: &Request,
+        buffer: &mut [u8],
+    ) -> Answer {
+        self::request(
+            settings, storage, keys, processors, processor, request, buffer,
+        )
+    }
+}

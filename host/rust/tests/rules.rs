@@ -1,0 +1,1044 @@
+//! Written cases for the rules of document 01 that the table of small facts leaves
+//! out, for each implementation.
+
+mod support;
+
+use storage_unit::{Answer, KeyInstruction, Number, PrefixInstruction, Request, Settings, Unit};
+
+use support::cases::*;
+use support::Lent;
+
+fn isk(r1: u32, r2: u32) -> Request {
+    Request::Key(KeyInstruction::Isk { r1, r2 })
+}
+
+fn ssk(r1: u32, r2: u32) -> Request {
+    Request::Key(KeyInstruction::Ssk { r1, r2 })
+}
+
+fn rrb(address: u32) -> Request {
+    Request::Key(KeyInstruction::Rrb { address })
+}
+
+fn iske(r1: u32, r2: u32) -> Request {
+    Request::Key(KeyInstruction::Iske { r1, r2 })
+}
+
+fn sske(r1: u32, r2: u32) -> Request {
+    Request::Key(KeyInstruction::Sske { r1, r2 })
+}
+
+fn rrbe(r2: u32) -> Request {
+    Request::Key(KeyInstruction::Rrbe { r2 })
+}
+
+fn set_prefix(word: u32) -> Request {
+    Request::Prefix(PrefixInstruction::SetPrefix { word })
+}
+
+const STORE_PREFIX: Request = Request::Prefix(PrefixInstruction::StorePrefix);
+
+/// One request of each operation that completes in the usual state with a buffer of
+/// four bytes.
+fn one_of_each() -> [Request; 10] {
+    [
+        Request::fetch(0, 4),
+        Request::store(0, 4),
+        isk(0, 0),
+        ssk(0, 0),
+        rrb(0),
+        iske(0, 0),
+        sske(0, 0),
+        rrbe(0),
+        set_prefix(4096),
+        STORE_PREFIX,
+    ]
+}
+
+/// The usual state with one key for each 4K block.
+fn with_4k_units() -> Lent {
+    let mut lent = usual();
+    lent.settings.four_k = true;
+    lent.keys = vec![0; 16];
+    lent
+}
+
+/// The answer to one request in this state, with a buffer of this length.
+fn answer<U: Unit>(before: &Lent, processor: u32, request: Request, buffer: usize) -> Answer {
+    let mut lent = before.clone();
+    lent.request::<U>(processor, &request, &mut vec![0; buffer])
+}
+
+/// Expects this number with place 0 for each step. A state with many faults loses one
+/// fault in each step.
+fn falls_through<U: Unit>(steps: &[(Lent, Request, usize, Number)]) {
+    for (index, (before, request, buffer, number)) in steps.iter().enumerate() {
+        let given = answer::<U>(before, 0, *request, *buffer);
+        assert_eq!(
+            (given.number, given.place),
+            (*number, 0),
+            "step {index}: {request:?}"
+        );
+    }
+}
+
+/// A state with every fault that a state can have, and the states that follow when
+/// lengths, record, problem state and key control are put right one after another.
+fn faulty_states(settings: Settings) -> [Lent; 5] {
+    let mut right = usual();
+    right.settings = settings;
+    right.keys = vec![0x70; settings.key_count(65_536)];
+    right.processors[0].key = 3;
+    right.processors[0].key_control = true;
+    let mut without_control = right.clone();
+    without_control.processors[0].key_control = false;
+    let mut in_problem_state = without_control.clone();
+    in_problem_state.processors[0].problem = true;
+    let mut bad_record = in_problem_state.clone();
+    bad_record.processors[0].key = 16;
+    let mut bad_lengths = bad_record.clone();
+    bad_lengths.keys.push(0);
+    [
+        bad_lengths,
+        bad_record,
+        in_problem_state,
+        without_control,
+        right,
+    ]
+}
+
+fn order_of_lines_for_accesses<U: Unit>() {
+    let settings = Settings {
+        four_k: true,
+        extensions: false,
+    };
+    let [bad_lengths, bad_record, in_problem_state, _, right] = faulty_states(settings);
+    let mut unlocked = right.clone();
+    unlocked.processors[0].key = 7;
+    for kind in [Request::fetch, Request::store] {
+        let mut locked = in_problem_state.clone();
+        locked.keys.fill(0x78);
+        falls_through::<U>(&[
+            (
+                bad_lengths.clone(),
+                kind(16_777_216, 0),
+                0,
+                Number::BadLengths,
+            ),
+            (
+                bad_record.clone(),
+                kind(16_777_216, 0),
+                0,
+                Number::BadProcessor,
+            ),
+            (locked.clone(), kind(16_777_216, 4), 4, Number::BadRequest),
+            (locked.clone(), kind(65_536, 0), 4, Number::BadRequest),
+            (locked.clone(), kind(65_536, 257), 300, Number::BadRequest),
+            (locked.clone(), kind(65_536, 4), 3, Number::BadRequest),
+            (locked.clone(), kind(65_536, 4), 4, Number::Addressing),
+            (locked.clone(), kind(600, 4), 4, Number::Protection),
+            (unlocked.clone(), kind(600, 4), 4, Number::Completed),
+        ]);
+    }
+}
+
+fn order_of_lines_for_isk_and_ssk<U: Unit>() {
+    let settings = Settings {
+        four_k: true,
+        extensions: false,
+    };
+    let [bad_lengths, bad_record, in_problem_state, without_control, right] =
+        faulty_states(settings);
+    for instruction in [isk, ssk] {
+        let outside_and_odd = instruction(0, 65_537);
+        falls_through::<U>(&[
+            (bad_lengths.clone(), outside_and_odd, 0, Number::BadLengths),
+            (bad_record.clone(), outside_and_odd, 0, Number::BadProcessor),
+            (
+                in_problem_state.clone(),
+                outside_and_odd,
+                0,
+                Number::PrivilegedOperation,
+            ),
+            (
+                without_control.clone(),
+                outside_and_odd,
+                0,
+                Number::SpecialOperation,
+            ),
+            (right.clone(), outside_and_odd, 0, Number::Specification),
+            (right.clone(), instruction(0, 65_536), 0, Number::Addressing),
+            (right.clone(), instruction(0, 0), 0, Number::Completed),
+        ]);
+    }
+}
+
+fn order_of_lines_for_rrb<U: Unit>() {
+    let settings = Settings {
+        four_k: true,
+        extensions: false,
+    };
+    let [bad_lengths, bad_record, in_problem_state, without_control, right] =
+        faulty_states(settings);
+    falls_through::<U>(&[
+        (bad_lengths, rrb(16_777_216), 0, Number::BadLengths),
+        (bad_record, rrb(16_777_216), 0, Number::BadProcessor),
+        (
+            in_problem_state.clone(),
+            rrb(16_777_216),
+            0,
+            Number::BadRequest,
+        ),
+        (
+            in_problem_state,
+            rrb(65_551),
+            0,
+            Number::PrivilegedOperation,
+        ),
+        (without_control, rrb(65_551), 0, Number::SpecialOperation),
+        (right.clone(), rrb(65_551), 0, Number::Addressing),
+        (right, rrb(15), 0, Number::Completed),
+    ]);
+}
+
+fn order_of_lines_for_extended_instructions<U: Unit>() {
+    let settings = Settings {
+        four_k: true,
+        extensions: true,
+    };
+    let [bad_lengths, bad_record, in_problem_state, without_control, _] = faulty_states(settings);
+    for (outside, inside) in [
+        (iske(0, 65_536), iske(0, 15)),
+        (sske(0, 65_536), sske(0, 15)),
+        (rrbe(65_536), rrbe(15)),
+    ] {
+        let without_extensions = |lent: &Lent| {
+            let mut lent = lent.clone();
+            lent.settings.extensions = false;
+            lent
+        };
+        falls_through::<U>(&[
+            (
+                without_extensions(&bad_lengths),
+                outside,
+                0,
+                Number::BadLengths,
+            ),
+            (
+                without_extensions(&bad_record),
+                outside,
+                0,
+                Number::BadProcessor,
+            ),
+            (
+                without_extensions(&in_problem_state),
+                outside,
+                0,
+                Number::Operation,
+            ),
+            (
+                in_problem_state.clone(),
+                outside,
+                0,
+                Number::PrivilegedOperation,
+            ),
+            (without_control.clone(), outside, 0, Number::Addressing),
+            (without_control.clone(), inside, 0, Number::Completed),
+        ]);
+    }
+}
+
+fn order_of_lines_for_prefix_instructions<U: Unit>() {
+    let settings = Settings {
+        four_k: true,
+        extensions: false,
+    };
+    let [bad_lengths, bad_record, in_problem_state, without_control, _] = faulty_states(settings);
+    falls_through::<U>(&[
+        (
+            bad_lengths.clone(),
+            set_prefix(65_536),
+            0,
+            Number::BadLengths,
+        ),
+        (
+            bad_record.clone(),
+            set_prefix(65_536),
+            0,
+            Number::BadProcessor,
+        ),
+        (
+            in_problem_state.clone(),
+            set_prefix(65_536),
+            0,
+            Number::PrivilegedOperation,
+        ),
+        (
+            without_control.clone(),
+            set_prefix(65_536),
+            0,
+            Number::Addressing,
+        ),
+        (
+            without_control.clone(),
+            set_prefix(61_440),
+            0,
+            Number::Completed,
+        ),
+        (bad_lengths, STORE_PREFIX, 0, Number::BadLengths),
+        (bad_record, STORE_PREFIX, 0, Number::BadProcessor),
+        (
+            in_problem_state,
+            STORE_PREFIX,
+            0,
+            Number::PrivilegedOperation,
+        ),
+        (without_control, STORE_PREFIX, 0, Number::Completed),
+    ]);
+}
+
+/// Line 64: every operation, storage lengths and key array lengths.
+fn lengths_of_storage_and_keys<U: Unit>() {
+    for request in one_of_each() {
+        for (four_k, storage, keys, good) in [
+            (false, 4096, 2, true),
+            (false, 12_288, 6, true),
+            (false, 16_777_216, 8192, true),
+            (true, 4096, 1, true),
+            (true, 16_777_216, 4096, true),
+            (false, 0, 0, false),
+            (true, 0, 0, false),
+            (false, 2048, 1, false),
+            (false, 4095, 1, false),
+            (false, 4097, 2, false),
+            (false, 6144, 3, false),
+            (false, 16_781_312, 8194, false),
+            (true, 16_781_312, 4097, false),
+            (false, 4096, 0, false),
+            (false, 4096, 1, false),
+            (false, 4096, 3, false),
+            (true, 4096, 0, false),
+            (true, 4096, 2, false),
+            (false, 65_536, 16, false),
+            (true, 65_536, 32, false),
+        ] {
+            let mut lent = usual();
+            lent.settings.four_k = four_k;
+            lent.processors[0].key_control = true;
+            lent.storage = vec![0; storage];
+            lent.keys = vec![0; keys];
+            // SET PREFIX to 4096 needs two blocks.
+            let request = match request {
+                Request::Prefix(PrefixInstruction::SetPrefix { .. }) => set_prefix(0),
+                other => other,
+            };
+            let number = if good {
+                Number::Completed
+            } else {
+                Number::BadLengths
+            };
+            assert_eq!(
+                lent.request::<U>(0, &request, &mut [0; 4]).number,
+                number,
+                "{request:?}, storage {storage}, keys {keys}, 4K {four_k}"
+            );
+        }
+    }
+}
+
+/// Line 65: every operation, every field of the own record, not the other record.
+fn processor_numbers_and_records<U: Unit>() {
+    for request in one_of_each() {
+        for processor in [2, 3, 256, 65_536, 1 << 31, u32::MAX] {
+            let given = answer::<U>(&usual(), processor, request, 4);
+            assert_eq!(given, Answer::refused(Number::BadProcessor, 0));
+        }
+        for fault in 0..8 {
+            for own in 0..2 {
+                let mut lent = usual();
+                let record = &mut lent.processors[own];
+                match fault {
+                    0 => record.key = 16,
+                    1 => record.key = 255,
+                    2 => record.code = 4,
+                    3 => record.code = 255,
+                    4 => record.prefix = 65_536,
+                    5 => record.prefix = 1,
+                    6 => record.prefix = 2048,
+                    _ => record.prefix = 0x0100_0000,
+                }
+                let before = lent.clone();
+                let mut buffer = [9; 4];
+                let given = lent.request::<U>(own as u32, &request, &mut buffer);
+                assert_eq!(given, Answer::refused(Number::BadProcessor, 0));
+                assert!(lent == before && buffer == [9; 4]);
+                let given = answer::<U>(&before, 1 - own as u32, request, 4);
+                assert_eq!(given.number, Number::Completed, "{request:?}");
+            }
+        }
+    }
+}
+
+/// The limits of the fields are allowed.
+fn largest_fields<U: Unit>() {
+    let mut lent = usual();
+    lent.processors[1].key = 15;
+    lent.processors[1].code = 3;
+    lent.processors[1].prefix = 61_440;
+    lent.keys = vec![0xF0; 32];
+    for request in one_of_each() {
+        let given = answer::<U>(&lent, 1, request, 4);
+        assert_eq!(given.number, Number::Completed, "{request:?}");
+    }
+}
+
+/// Byte 0 is forbidden and byte 1 lies outside storage: 5, place 1.
+fn outside_before_forbidden<U: Unit>() {
+    let mut before = usual();
+    before.keys[31] = 0x88;
+    before.processors[0].key = 3;
+    for request in [Request::fetch(65_535, 2), Request::store(65_535, 2)] {
+        refused::<U>(&before, request, &[7; 2], Number::Addressing, 1);
+    }
+    refused::<U>(
+        &before,
+        Request::fetch(65_535, 1),
+        &[7; 2],
+        Number::Protection,
+        0,
+    );
+}
+
+/// An access that starts outside a small storage has place 0, also if it would go on
+/// at address 0.
+fn start_outside<U: Unit>() {
+    for (address, length, place) in [
+        (65_536, 1, 0),
+        (65_536, 256, 0),
+        (16_777_215, 256, 0),
+        (65_281, 256, 255),
+        (65_400, 256, 136),
+    ] {
+        refused::<U>(
+            &usual(),
+            Request::fetch(address, length),
+            &[7; 256],
+            Number::Addressing,
+            place,
+        );
+    }
+}
+
+/// A storage of the full size: accesses go on at address 0.
+fn past_the_highest_address<U: Unit>() {
+    let before = with_storage(16_777_216);
+    let mut after = before.clone();
+    after.keys[8191] = 0x04;
+    after.keys[0] = 0x04;
+    let mut fetched = before.storage[16_777_000..].to_vec();
+    fetched.extend_from_slice(&before.storage[..40]);
+    expect::<U>(
+        &before,
+        Request::fetch(16_777_000, 256),
+        &[0; 256],
+        Answer::completed(0),
+        &fetched,
+        &after,
+    );
+
+    // With a prefix, the bytes after the highest address go to the prefix area.
+    let mut before = before;
+    before.processors[0].prefix = 8192;
+    let mut after = before.clone();
+    let bytes = new_bytes(256);
+    after.keys[8191] = 0x06;
+    after.keys[4] = 0x06;
+    after.storage[16_777_000..].copy_from_slice(&bytes[..216]);
+    after.storage[8192..8232].copy_from_slice(&bytes[216..]);
+    completes::<U>(&before, Request::store(16_777_000, 256), &bytes, 0, &after);
+
+    // The prefix area at the end of storage: real addresses 0 and up follow it.
+    before.processors[0].prefix = 16_773_120;
+    let mut after = before.clone();
+    after.keys[1] = 0x06;
+    after.keys[8190] = 0x06;
+    after.storage[4095] = 0xFF;
+    after.storage[16_773_120] = 0xFE;
+    completes::<U>(
+        &before,
+        Request::store(16_777_215, 2),
+        &new_bytes(2),
+        0,
+        &after,
+    );
+
+    // The key of the unit after the highest address forbids.
+    before.processors[0].key = 3;
+    before.keys[1] = 0x30;
+    before.keys[8190] = 0x48;
+    for request in [
+        Request::fetch(16_777_200, 256),
+        Request::store(16_777_200, 256),
+    ] {
+        refused::<U>(&before, request, &[7; 256], Number::Protection, 16);
+    }
+}
+
+/// An access between a block under one prefix rule and a block under another.
+fn access_under_two_rules<U: Unit>() {
+    // Real 4094-4097 with prefix 8192: absolute 12286, 12287, 4096, 4097.
+    let before = with_prefix(8192);
+    let mut after = before.clone();
+    after.keys[5] = 0x04;
+    after.keys[2] = 0x04;
+    expect::<U>(
+        &before,
+        Request::fetch(4094, 4),
+        &[0; 4],
+        Answer::completed(0),
+        &[
+            content(12_286),
+            content(12_287),
+            content(4096),
+            content(4097),
+        ],
+        &after,
+    );
+    // Prefix 4096: blocks 0 and 1 change places.
+    let before = with_prefix(4096);
+    let mut after = before.clone();
+    after.keys[3] = 0x06;
+    after.keys[0] = 0x06;
+    after.storage[8191] = 0xFF;
+    after.storage[0] = 0xFE;
+    completes::<U>(&before, Request::store(4095, 2), &new_bytes(2), 0, &after);
+}
+
+/// Keys are tested by the absolute address.
+fn protection_by_absolute_address<U: Unit>() {
+    let mut before = with_prefix(8192);
+    before.processors[0].key = 3;
+    before.keys[0] = 0x48;
+    before.keys[4] = 0x30;
+    let mut after = before.clone();
+    after.keys[4] = 0x36;
+    after.storage[8196] = 0xFF;
+    completes::<U>(&before, Request::store(4, 1), &[0xFF], 0, &after);
+    refused::<U>(
+        &before,
+        Request::store(8196, 1),
+        &[0xFF],
+        Number::Protection,
+        0,
+    );
+}
+
+/// An access that ends with its unit touches that unit only.
+fn access_to_the_end_of_a_unit<U: Unit>() {
+    for (mut before, unit) in [(usual(), 2048), (with_4k_units(), 4096)] {
+        before.processors[0].key = 3;
+        before.keys[0] = 0x30;
+        before.keys[1] = 0x48;
+        let mut after = before.clone();
+        after.keys[0] = 0x36;
+        let bytes = new_bytes(256);
+        after.storage[unit - 256..unit].copy_from_slice(&bytes);
+        let start = unit as u32 - 256;
+        completes::<U>(&before, Request::store(start, 256), &bytes, 0, &after);
+        refused::<U>(
+            &before,
+            Request::store(start + 1, 256),
+            &bytes,
+            Number::Protection,
+            255,
+        );
+    }
+}
+
+/// With 4K units, addresses 2047 and 2048 share a key.
+fn access_within_a_4k_unit<U: Unit>() {
+    let mut before = with_4k_units();
+    before.keys[0] = 0x91;
+    before.keys[1] = 0xA1;
+    before.processors[0].key = 9;
+    let mut after = before.clone();
+    after.keys[0] = 0x96;
+    after.storage[2047..2049].copy_from_slice(&new_bytes(2));
+    completes::<U>(&before, Request::store(2047, 2), &new_bytes(2), 0, &after);
+}
+
+/// Only PSW key 0 matches every key; access-control bits of zero match nothing else.
+fn keys_that_match<U: Unit>() {
+    for psw_key in 0..16_u8 {
+        for access_control in 0..16_u8 {
+            for low_bits in 0..16_u8 {
+                let mut before = usual();
+                before.keys[0] = access_control << 4 | low_bits;
+                before.processors[0].key = psw_key;
+                let matches = psw_key == 0 || psw_key == access_control;
+                let fetch = answer::<U>(&before, 0, Request::fetch(0, 1), 1);
+                let store = answer::<U>(&before, 0, Request::store(0, 1), 1);
+                let fetch_protected = low_bits & 8 != 0;
+                assert_eq!(
+                    fetch.number == Number::Completed,
+                    matches || !fetch_protected
+                );
+                assert_eq!(store.number == Number::Completed, matches);
+            }
+        }
+    }
+}
+
+/// Completed accesses put bit 7 of each key to zero, refused ones leave it.
+fn bit_7_and_accesses<U: Unit>() {
+    let mut before = usual();
+    before.keys[0] = 0x37;
+    before.keys[1] = 0x31;
+    let mut after = before.clone();
+    after.keys[0] = 0x36;
+    after.keys[1] = 0x34;
+    let fetched = &before.storage[2040..2056].to_vec();
+    expect::<U>(
+        &before,
+        Request::fetch(2040, 16),
+        &[0; 16],
+        Answer::completed(0),
+        fetched,
+        &after,
+    );
+    after.keys[1] = 0x36;
+    after.storage[2040..2056].copy_from_slice(&new_bytes(16));
+    completes::<U>(&before, Request::store(2040, 16), &new_bytes(16), 0, &after);
+    before.processors[0].key = 3;
+    before.keys[1] = 0x49;
+    refused::<U>(
+        &before,
+        Request::fetch(2040, 16),
+        &[0; 16],
+        Number::Protection,
+        8,
+    );
+}
+
+/// Low-address protection: stores only, real addresses 0-511, also for PSW key 0, and
+/// before prefixing.
+fn low_address_protection<U: Unit>() {
+    let mut before = with_prefix(8192);
+    before.processors[0].low_protection = true;
+    for (address, length) in [(0, 1), (511, 256), (256, 256), (0, 256)] {
+        refused::<U>(
+            &before,
+            Request::store(address, length),
+            &[7; 256],
+            Number::Protection,
+            0,
+        );
+    }
+    let mut after = before.clone();
+    after.keys[4] = 0x04;
+    let fetched = before.storage[8192..8448].to_vec();
+    expect::<U>(
+        &before,
+        Request::fetch(0, 256),
+        &[0; 256],
+        Answer::completed(0),
+        &fetched,
+        &after,
+    );
+    // The bit of the other processor does not matter.
+    let mut other = usual();
+    other.processors[1].low_protection = true;
+    let mut after = other.clone();
+    after.keys[0] = 0x06;
+    after.storage[0] = 0xFF;
+    completes::<U>(&other, Request::store(0, 1), &[0xFF], 0, &after);
+}
+
+/// The problem state does not matter to accesses.
+fn accesses_in_problem_state<U: Unit>() {
+    let mut before = usual();
+    before.processors[0].problem = true;
+    for request in one_of_each() {
+        let number = match request {
+            Request::Access { .. } => Number::Completed,
+            _ => Number::PrivilegedOperation,
+        };
+        assert_eq!(answer::<U>(&before, 0, request, 4).number, number);
+    }
+}
+
+/// Buffers: too short, and longer than the access.
+fn buffers<U: Unit>() {
+    let before = usual();
+    for request in [Request::fetch(0, 4), Request::store(0, 4)] {
+        refused::<U>(&before, request, &[7; 3], Number::BadRequest, 0);
+        refused::<U>(&before, request, &[], Number::BadRequest, 0);
+    }
+    let mut after = before.clone();
+    after.keys[0] = 0x04;
+    expect::<U>(
+        &before,
+        Request::fetch(1, 4),
+        &[9; 6],
+        Answer::completed(0),
+        &[1, 2, 3, 4, 9, 9],
+        &after,
+    );
+    after.keys[0] = 0x06;
+    after.storage[1..5].copy_from_slice(&[9; 4]);
+    completes::<U>(&before, Request::store(1, 4), &[9; 600], 0, &after);
+}
+
+/// Key instructions work on the key of the absolute address.
+fn key_instructions_are_prefixed<U: Unit>() {
+    let mut before = with_prefix(8192);
+    for (index, key) in before.keys.iter_mut().enumerate() {
+        *key = (index as u8) << 3;
+    }
+    // Blocks 0 and 2 change places; each has two keys.
+    for (real, unit) in [
+        (0, 4),
+        (2048, 5),
+        (4096, 2),
+        (6144, 3),
+        (8192, 0),
+        (10_240, 1),
+    ] {
+        completes::<U>(&before, isk(0, real), &[], (unit as u32) << 3, &before);
+        let mut after = before.clone();
+        after.keys[unit] = 0xF0;
+        completes::<U>(&before, ssk(0xF0, real), &[], 0, &after);
+    }
+    for (real, unit) in [(0, 4), (4096, 2), (8192, 0)] {
+        completes::<U>(&before, iske(0, real), &[], before.iske_of(unit), &before);
+        let mut after = before.clone();
+        after.keys[unit..unit + 2].fill(0xF0);
+        completes::<U>(&before, sske(0xF0, real), &[], 0, &after);
+    }
+}
+
+impl Lent {
+    /// The key of a unit with the reference and change bits of the next one.
+    fn iske_of(&self, unit: usize) -> u32 {
+        u32::from(self.keys[unit] & 0xFE | self.keys[unit + 1] & 0x06)
+    }
+}
+
+/// Ignored bits of R2 and of the address of RRB.
+fn ignored_bits<U: Unit>() {
+    let mut before = usual();
+    before.keys[3] = 0x8E;
+    let second_block = 0x1800;
+    completes::<U>(
+        &before,
+        isk(0, 0xFF00_07F0 | second_block),
+        &[],
+        0x8E,
+        &before,
+    );
+    let mut after = before.clone();
+    after.keys[3] = 0x30;
+    completes::<U>(
+        &before,
+        ssk(0xFFFF_FF31, 0xFF00_07F0 | second_block),
+        &[],
+        0,
+        &after,
+    );
+    for bit in 0..4 {
+        for request in [isk(0, 1 << bit), ssk(0, 1 << bit)] {
+            refused::<U>(&before, request, &[], Number::Specification, 0);
+        }
+    }
+    let mut after = before.clone();
+    after.keys[3] = 0x8A;
+    after.processors[0].code = 3;
+    completes::<U>(&before, rrb(0x7FF | second_block), &[], 0, &after);
+    // Extended instructions: bits 0 and 20-31 of R2.
+    completes::<U>(
+        &before,
+        iske(0xFFFF_FFFF, 0x8000_1FFF),
+        &[],
+        0xFFFF_FF06,
+        &before,
+    );
+    let mut after = before.clone();
+    after.keys[2..4].fill(0x30);
+    completes::<U>(&before, sske(0x31, 0x8000_1FFF), &[], 0, &after);
+    let mut after = before.clone();
+    after.keys[3] = 0x8A;
+    completes::<U>(&before, rrbe(0x8000_1FFF), &[], 0, &after);
+}
+
+/// Extended instructions use 31 bits of R2, ISK and SSK 24, RRB needs 24.
+fn address_sizes<U: Unit>() {
+    let before = with_storage(16_777_216);
+    for request in [
+        iske(0, 0x0100_0000),
+        sske(0xFF, 0x4000_0000),
+        rrbe(0x8100_0000),
+    ] {
+        refused::<U>(&before, request, &[], Number::Addressing, 0);
+    }
+    for request in [rrb(16_777_216), rrb(u32::MAX)] {
+        refused::<U>(&before, request, &[], Number::BadRequest, 0);
+    }
+    for request in [
+        Request::fetch(16_777_216, 1),
+        Request::store(16_777_216, 1),
+        Request::fetch(u32::MAX, 1),
+        Request::store(u32::MAX, 256),
+        Request::fetch(0, u32::MAX),
+        Request::store(u32::MAX, u32::MAX),
+    ] {
+        refused::<U>(&before, request, &[7; 300], Number::BadRequest, 0);
+    }
+    let mut after = before.clone();
+    after.keys[8191] = 0x70;
+    completes::<U>(&before, ssk(0x70, 0xFFFF_FFF0), &[], 0, &after);
+}
+
+/// ISK and ISKE: bit 31 of the word is zero, and the keys stay, bit 7 as well.
+fn insert<U: Unit>() {
+    let mut before = usual();
+    before.keys[0] = 0xF1;
+    before.keys[1] = 0x0B;
+    completes::<U>(&before, isk(0xFFFF_FFFF, 0), &[], 0xFFFF_FFF0, &before);
+    completes::<U>(&before, isk(0, 0x800), &[], 0x0A, &before);
+    // Of the high-order key, only reference and change are taken.
+    completes::<U>(&before, iske(0xFFFF_FFFF, 0), &[], 0xFFFF_FFF2, &before);
+    // Every pair of reference and change bits.
+    for low in 0..4_u8 {
+        for high in 0..4_u8 {
+            before.keys[0] = 0x81 | low << 1;
+            before.keys[1] = 0x79 | high << 1;
+            let word = 0x80 | u32::from(low | high) << 1;
+            completes::<U>(&before, iske(0, 0), &[], word, &before);
+        }
+    }
+}
+
+/// RRB and RRBE: all values of the reference and change bits.
+fn reset_reference<U: Unit>() {
+    for low in 0..4_u8 {
+        for high in 0..4_u8 {
+            let mut before = usual();
+            before.processors[0].code = 1;
+            before.keys[6] = 0x99 | low << 1;
+            before.keys[7] = 0xA1 | high << 1;
+            let mut after = before.clone();
+            after.keys[6] = 0x98 | (low & 1) << 1;
+            after.processors[0].code = low;
+            completes::<U>(&before, rrb(0x3000), &[], 0, &after);
+            after.keys[7] = 0xA0 | (high & 1) << 1;
+            completes::<U>(&before, rrbe(0x3000), &[], 0, &after);
+            let mut after = before.clone();
+            after.keys[7] = 0xA0 | (high & 1) << 1;
+            after.processors[0].code = high;
+            completes::<U>(&before, rrb(0x3800), &[], 0, &after);
+        }
+    }
+}
+
+/// With the 4K facility every key instruction works on the single key of the block.
+fn key_instructions_with_4k_units<U: Unit>() {
+    let mut before = with_4k_units();
+    before.processors[0].key_control = true;
+    before.keys[1] = 0x87;
+    before.keys[2] = 0x55;
+    for request in [isk(0, 0x1000), isk(0, 0x1800), iske(0, 0x1800)] {
+        completes::<U>(&before, request, &[], 0x86, &before);
+    }
+    let mut after = before.clone();
+    after.keys[1] = 0x32;
+    for request in [ssk(0x33, 0x1000), ssk(0x33, 0x1800), sske(0x33, 0x1800)] {
+        completes::<U>(&before, request, &[], 0, &after);
+    }
+    let mut after = before.clone();
+    after.keys[1] = 0x82;
+    after.processors[0].code = 3;
+    for request in [rrb(0x1000), rrb(0x1FFF), rrbe(0x1FFF)] {
+        completes::<U>(&before, request, &[], 0, &after);
+    }
+}
+
+/// Bit 7 of control register 0 matters to ISK, SSK and RRB with the 4K facility only.
+fn key_control<U: Unit>() {
+    for four_k in [false, true] {
+        for control in [false, true] {
+            let mut before = if four_k { with_4k_units() } else { usual() };
+            before.processors[0].key_control = control;
+            before.processors[1].key_control = !control;
+            for request in one_of_each() {
+                let plain_key_instruction = matches!(
+                    request,
+                    Request::Key(
+                        KeyInstruction::Isk { .. }
+                            | KeyInstruction::Ssk { .. }
+                            | KeyInstruction::Rrb { .. }
+                    )
+                );
+                let number = if plain_key_instruction && four_k && !control {
+                    Number::SpecialOperation
+                } else {
+                    Number::Completed
+                };
+                assert_eq!(answer::<U>(&before, 0, request, 4).number, number);
+            }
+        }
+    }
+}
+
+/// The protection of a block does not matter to key instructions, and they record no
+/// reference or change.
+fn key_instructions_are_not_protected<U: Unit>() {
+    let mut before = usual();
+    before.processors[0].key = 3;
+    before.processors[0].low_protection = true;
+    before.keys[0] = 0x88;
+    before.keys[1] = 0x88;
+    completes::<U>(&before, isk(0, 0), &[], 0x88, &before);
+    completes::<U>(&before, iske(0, 0), &[], 0x88, &before);
+    let mut after = before.clone();
+    after.keys[0] = 0x40;
+    completes::<U>(&before, ssk(0x40, 0), &[], 0, &after);
+    after.keys[1] = 0x40;
+    completes::<U>(&before, sske(0x40, 0), &[], 0, &after);
+}
+
+/// SET PREFIX takes bits 8-19 of its word; the block is not prefixed, and its keys and
+/// the prefix of the other processor do not matter.
+fn set_prefix_rules<U: Unit>() {
+    let mut before = with_prefix(8192);
+    before.processors[0].key = 3;
+    before.processors[0].low_protection = true;
+    before.processors[0].code = 2;
+    before.processors[1].prefix = 12_288;
+    before.keys = vec![0x89; 32];
+    for (word, prefix) in [
+        (0, 0),
+        (0xFFF, 0),
+        (0xFF00_0FFF, 0),
+        (8192, 8192),
+        (12_288, 12_288),
+        (0xFF00_FFFF, 61_440),
+    ] {
+        let mut after = before.clone();
+        after.processors[0].prefix = prefix;
+        completes::<U>(&before, set_prefix(word), &[7; 3], 0, &after);
+        completes::<U>(&after, STORE_PREFIX, &[7; 3], prefix, &after);
+    }
+    for word in [65_536, 0x00FF_F000, 0xFF01_0000] {
+        refused::<U>(&before, set_prefix(word), &[], Number::Addressing, 0);
+    }
+}
+
+/// A new prefix holds from the next request of that processor, and only for it.
+fn new_prefix_holds<U: Unit>() {
+    let mut lent = usual();
+    let given = lent.request::<U>(1, &set_prefix(4096), &mut []);
+    assert_eq!(given, Answer::completed(0));
+    let mut buffer = [0];
+    lent.request::<U>(1, &Request::fetch(10, 1), &mut buffer);
+    assert_eq!(buffer, [content(4106)]);
+    lent.request::<U>(0, &Request::fetch(10, 1), &mut buffer);
+    assert_eq!(buffer, [10]);
+    assert_eq!(lent.processors[0].prefix, 0);
+    assert_eq!(lent.processors[1].prefix, 4096);
+    let given = lent.request::<U>(0, &STORE_PREFIX, &mut []);
+    assert_eq!(given, Answer::completed(0));
+}
+
+/// SET PREFIX cannot mend a bad prefix.
+fn bad_prefix_stays<U: Unit>() {
+    refused::<U>(
+        &with_prefix(65_536),
+        set_prefix(0),
+        &[],
+        Number::BadProcessor,
+        0,
+    );
+    refused::<U>(&with_prefix(4), STORE_PREFIX, &[], Number::BadProcessor, 0);
+}
+
+/// Without the extensions, everything but the three extended instructions completes.
+fn without_extensions<U: Unit>() {
+    let mut before = usual();
+    before.settings.extensions = false;
+    for request in one_of_each() {
+        let extended = matches!(
+            request,
+            Request::Key(
+                KeyInstruction::Iske { .. }
+                    | KeyInstruction::Sske { .. }
+                    | KeyInstruction::Rrbe { .. }
+            )
+        );
+        let number = if extended {
+            Number::Operation
+        } else {
+            Number::Completed
+        };
+        assert_eq!(answer::<U>(&before, 0, request, 4).number, number);
+    }
+}
+
+/// Only RRB and RRBE change the condition code, and only their processor's.
+fn condition_code<U: Unit>() {
+    let mut before = usual();
+    before.processors[0].code = 1;
+    before.processors[1].code = 2;
+    before.keys[0] = 0x06;
+    for request in one_of_each() {
+        for processor in 0..2 {
+            let mut lent = before.clone();
+            let given = lent.request::<U>(processor, &request, &mut [0; 4]);
+            assert_eq!(given.number, Number::Completed);
+            let resets = matches!(
+                request,
+                Request::Key(KeyInstruction::Rrb { .. } | KeyInstruction::Rrbe { .. })
+            );
+            let mut codes = [1, 2];
+            if resets {
+                codes[processor as usize] = 3;
+            }
+            assert_eq!(lent.processors.map(|record| record.code), codes);
+        }
+    }
+}
+
+for_each_unit! {
+    order_of_lines_for_accesses
+    order_of_lines_for_isk_and_ssk
+    order_of_lines_for_rrb
+    order_of_lines_for_extended_instructions
+    order_of_lines_for_prefix_instructions
+    lengths_of_storage_and_keys
+    processor_numbers_and_records
+    largest_fields
+    outside_before_forbidden
+    start_outside
+    past_the_highest_address
+    access_under_two_rules
+    protection_by_absolute_address
+    access_to_the_end_of_a_unit
+    access_within_a_4k_unit
+    keys_that_match
+    bit_7_and_accesses
+    low_address_protection
+    accesses_in_problem_state
+    buffers
+    key_instructions_are_prefixed
+    ignored_bits
+    address_sizes
+    insert
+    reset_reference
+    key_instructions_with_4k_units
+    key_control
+    key_instructions_are_not_protected
+    set_prefix_rules
+    new_prefix_holds
+    bad_prefix_stays
+    without_extensions
+    condition_code
+}

@@ -15,10 +15,10 @@ use Rattle.machine.specs.declared.Answer.{Answer}
 use Rattle.machine.specs.declared.Answer.the-variants.{Completed, Refused}
 use Rattle.machine.specs.Numbers.{own, lengthsValid, written}
 use Rattle.machine.specs.Answers.{values}
-use Rattle.machine.specs.Step.{Outcome, outcome, step}
+use Rattle.machine.specs.Step.{outcome, step}
 use Rattle.machine.proofs.Plans.{plan-clear}
 use Rattle.machine.proofs.Requests.{refusal-number, completed-plan, other-number-refused}
-use Rattle.host.specs.Boundary.{recordBytes, packed, Left, left, recordsLeft, leftBy}
+use Rattle.host.specs.Boundary.{recordBytes, packed, left, recordsLeft, leftBy}
 
 -- the request of processor n leaves these
 module _ (s : Settings) (storage keys : List ℕ) (ps : List Processor) (n : ℕ) (r : Request) (buffer : List ℕ)

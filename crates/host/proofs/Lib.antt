@@ -1,3 +1,4 @@
 -- The laws of the boundary.
 pub mod Laws
 pub mod Calls
+pub mod Records

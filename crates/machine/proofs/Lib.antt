@@ -11,6 +11,7 @@ pub mod Plans
 pub mod AbsoluteAddress
 pub mod Requests
 pub mod Conditions
+pub mod AnswerPlace
 pub mod Accesses
 pub mod KeyInstructions
 pub mod Named

@@ -11,7 +11,6 @@ use Rattle.machine.specs.declared.PrefixInstruction.{PrefixInstruction}
 use Rattle.machine.specs.declared.Request.the-variants.{Prefix}
 use Rattle.machine.specs.declared.Reason.{Reason}
 use Rattle.machine.specs.declared.Reason.the-variants.{Configuration, Record, Privileged, Addressing}
-use Rattle.machine.specs.declared.Answer.{Answer}
 use Rattle.machine.specs.declared.Answer.the-variants.{Completed, Refused}
 use Rattle.machine.specs.declared.Verdict.{Verdict}
 use Rattle.machine.specs.declared.Verdict.the-variants.{Clear, Stop}

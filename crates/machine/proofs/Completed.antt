@@ -9,8 +9,6 @@ use native.Mathlib.Nat.{add-zero}
 use native.Mathlib.Omega.{arith}
 use lib.ListN.{length, getD, length-set}
 use lib.Seq.{getD-set-other}
-use lib.Dec.{eqb}
-use borrow.Author.Tests.{eqb-true, eqb-false, eq-eqb}
 use Rattle.machine.specs.declared.Settings.{Settings}
 use Rattle.machine.specs.declared.Processor.{Processor}
 use Rattle.machine.specs.declared.Request.{Request}
@@ -29,12 +27,12 @@ use Rattle.machine.specs.Protection.{recorded}
 use Rattle.machine.specs.KeyInstructions.{operation, twoKeys, keyCount, wordGiven, keysLeft, codeLeft}
 use Rattle.machine.specs.Table.{plan}
 use Rattle.machine.specs.Step.{Outcome, withCode, storageLeft, bufferLeft, keysRecorded, firstUnit, completed}
-use Rattle.machine.specs.Units.{unitAt, unitCount, names}
+use Rattle.machine.specs.Units.{names}
 use Rattle.machine.specs.Turns.{State, isFetch}
-use Rattle.machine.proofs.Written.{length-written, written-elsewhere, Last, none, last, last-write}
-use Rattle.machine.proofs.Verdicts.{not-both, some-at, some-none, some-found}
+use Rattle.machine.proofs.Written.{length-written, written-elsewhere, Last, none, last, last-write, written-same, set-agree, written-agree, marked-agree}
+use Rattle.machine.proofs.Verdicts.{not-both}
+use Rattle.machine.proofs.Units.{named-at, named-by, unnamed-at}
 use Rattle.machine.proofs.Plans.{access-passed}
-use Rattle.machine.proofs.Places.{set-agree, written-agree, marked-agree, written-values}
 use Rattle.machine.proofs.Parts.{Part, byte, key, processor, lengths, read}
 
 -- an operation on the key of unit u, or on those of u and u + 1
@@ -82,18 +80,6 @@ module _ (keys others : List ℕ) (u : ℕ) where
   code-same two Reset c same = rw (first-same two same)
 
 module _ (s : Settings) (p : Processor) where
-  pub named-at : (r : Request) (i : ℕ) → i < unitCount s r → names Clear s p r (unitAt s p r i) ≡ true
-  unfolding names
-  named-at r i h = some-at _ (unitCount s r) i h (eq-eqb (unitAt s p r i) _ refl)
-
-  named-by : (r : Request) (u : ℕ) → names Clear s p r u ≡ true → (i : ℕ) × (i < unitCount s r) × (unitAt s p r i ≡ u)
-  unfolding names
-  named-by r u e = let (i, h, q) = some-found (λ j. eqb (unitAt s p r j) u) (unitCount s r) e in (i, h, eqb-true _ _ q)
-
-  unnamed-at : (r : Request) (u : ℕ) → names Clear s p r u ≡ false → (i : ℕ) → i < unitCount s r → unitAt s p r i ≢ u
-  unfolding names
-  unnamed-at r u e i h = eqb-false _ _ (some-none (λ j. eqb (unitAt s p r j) u) (unitCount s r) e i h)
-
   -- processor n completes a request with this buffer; p is its record
   module _ (n : ℕ) (buffer : List ℕ) where
     abbrev done : State → Request → Outcome
@@ -107,15 +93,15 @@ module _ (s : Settings) (p : Processor) where
     unfolding completed storageLeft
     byte-kept m (Access Fetch start count) a e = refl
     byte-kept m (Access Store start count) a e =
-        written-elsewhere (m .storage) _ _ count a (λ i h q. unnamed-at (Access Store start count) (unitOf s a) e i h (ap (unitOf s) q))
+        written-elsewhere (m .storage) _ _ count a (λ i h q. unnamed-at s p (Access Store start count) (unitOf s a) e i h (ap (unitOf s) q))
     byte-kept m (Key i) a e = refl
     byte-kept m (Prefix i) a e = refl
 
     pub key-kept : (m : State) (r : Request) (u : ℕ)
         → names Clear s p r u ≡ false → read (after m r) (key u) ≡ read m (key u)
     unfolding completed keysRecorded
-    key-kept m (Access kind start count) u e = written-elsewhere (m .keys) _ _ count u (unnamed-at (Access kind start count) u e)
-    key-kept m (Key i) u e = operated-elsewhere (firstUnit s p i) (twoKeys s i) (m .keys) (operation i) u (unnamed-at (Key i) u e)
+    key-kept m (Access kind start count) u e = written-elsewhere (m .keys) _ _ count u (unnamed-at s p (Access kind start count) u e)
+    key-kept m (Key i) u e = operated-elsewhere (firstUnit s p i) (twoKeys s i) (m .keys) (operation i) u (unnamed-at s p (Key i) u e)
     key-kept m (Prefix i) u e = refl
 
     pub record-kept : (m : State) (r : Request) (i : ℕ) → i ≢ n → read (after m r) (processor i) ≡ read m (processor i)
@@ -150,7 +136,7 @@ module _ (s : Settings) (p : Processor) where
 
         go : Last (m .keys) at (λ i. afterFetch (getD (m .keys) (at i) 0)) count u
             → getD (keysRecorded s Fetch (m .keys) p start count) u 0 ≡ afterFetch (getD (m .keys) u 0)
-        go (none away g) = let (i, h, q) = named-by (Access Fetch start count) u e in absurd (away i h q)
+        go (none away g) = let (i, h, q) = named-by s p (Access Fetch start count) u e in absurd (away i h q)
         go (last i h q g) = g (subst (λ v. v < length (m .keys)) q (access-passed s _ _ n p Fetch start count _ clear .key-inside i h)) ∙ rw q
     key-fetched m (Access Store start count) u clear e f = absurd (not-both f refl)
     key-fetched m (Key i) u clear e f = absurd (not-both f refl)
@@ -165,7 +151,7 @@ module _ (s : Settings) (p : Processor) where
       BytesSame r = (a : ℕ) → names Clear s p r (unitOf s a) ≡ true → read m (byte a) ≡ read o (byte a)
 
       block-same : (j : KeyInstruction) → KeysSame (Key j) → BlockSame (m .keys) (o .keys) (firstUnit s p j) (twoKeys s j)
-      block-same j k i h = k refl _ (named-at (Key j) i h)
+      block-same j k i h = k refl _ (named-at s p (Key j) i h)
 
       pub part-same : (r : Request) → KeysSame r → (q : Part) → read m q ≡ read o q → read (after m r) q ≡ read (after o r) q
       unfolding completed storageLeft keysRecorded
@@ -194,7 +180,7 @@ module _ (s : Settings) (p : Processor) where
       pub buffer-same : (r : Request) → BytesSame r → done m r .buffer ≡ done o r .buffer
       unfolding completed bufferLeft
       buffer-same (Access Fetch start count) b =
-          written-values buffer (λ i. i) _ _ count (λ i h. b _ (named-at (Access Fetch start count) i h))
+          written-same buffer (λ i. i) _ _ _ count (λ i h. (refl, b _ (named-at s p (Access Fetch start count) i h)))
       buffer-same (Access Store start count) b = refl
       buffer-same (Key j) b = refl
       buffer-same (Prefix j) b = refl

@@ -3,7 +3,6 @@
 use Prim.Native.Nat.{ℕ, _<_}
 use mathlib.Core.Path.{_≡_, refl, sym, ap, _∙_}
 use mathlib.Core.List.{List}
-use native.Mathlib.Omega.{arith}
 use lib.ListN.{getD}
 use Rattle.machine.specs.declared.Settings.{Settings}
 use Rattle.machine.specs.declared.Processor.{Processor}
@@ -12,32 +11,27 @@ use Rattle.machine.specs.declared.Request.the-variants.{Access, Key, Pre
 use Rattle.machine.specs.declared.AccessKind.{AccessKind}
 use Rattle.machine.specs.declared.AccessKind.the-variants.{Fetch, Store}
 use Rattle.machine.specs.Numbers.{add24}
-use Rattle.machine.specs.Key.{keyByte, accessControl, fetchProtection, change, afterFetch}
+use Rattle.machine.specs.Key.{accessControl, fetchProtection, afterFetch}
 use Rattle.machine.specs.Protection.{permitted, forbidden}
 use Rattle.machine.specs.Table.{protection}
 use Rattle.machine.specs.Units.{unitAt, unitCount}
 use Rattle.machine.proofs.Verdicts.{bytes-same}
-
-key-bits : (c f h : ℕ) → c < 16 → f < 2 → h < 2
-    → (accessControl (keyByte c f 1 h) ≡ c) × (fetchProtection (keyByte c f 1 h) ≡ f) × (change (keyByte c f 1 h) ≡ h)
-key-bits c f h cs fs hs = omega arith
-
-bits-kept : (k : ℕ)
-    → (accessControl (afterFetch k) ≡ accessControl k) × (fetchProtection (afterFetch k) ≡ fetchProtection k) × (change (afterFetch k) ≡ change k)
-unfolding afterFetch
-bits-kept k = key-bits (accessControl k) (fetchProtection k) (change k) (omega arith) (omega arith) (omega arith)
+use Rattle.machine.proofs.KeyBytes.{key-recorded}
 
 pub fetched-twice : (k : ℕ) → afterFetch (afterFetch k) ≡ afterFetch k
 unfolding afterFetch
-fetched-twice k = let (c, f, h) = bits-kept k in rw (c, f, h)
+fetched-twice k = let kept = key-recorded Fetch k in rw (kept .access-control, kept .fetch-protection, kept .change-bit)
 
 module _ (k l : ℕ) (same : afterFetch k ≡ afterFetch l) where
   same-control : accessControl k ≡ accessControl l
-  same-control = sym (bits-kept k .0) ∙ ap accessControl same ∙ bits-kept l .0
+  same-control = sym (key-recorded Fetch k .access-control) ∙ ap accessControl same ∙ key-recorded Fetch l .access-control
+
+  same-fetch-protection : fetchProtection k ≡ fetchProtection l
+  same-fetch-protection = sym (key-recorded Fetch k .fetch-protection) ∙ ap fetchProtection same ∙ key-recorded Fetch l .fetch-protection
 
   same-forbidden : (kind : AccessKind) (p : Processor) (real : ℕ) → forbidden kind p real k ≡ forbidden kind p real l
   unfolding permitted
-  same-forbidden Fetch p real = rw (same-control, sym (bits-kept k .1) ∙ ap fetchProtection same ∙ bits-kept l .1)
+  same-forbidden Fetch p real = rw (same-control, same-fetch-protection)
   same-forbidden Store p real = rw same-control
 
 -- line 4 is the same by keys that a fetch would leave the same

@@ -16,7 +16,6 @@ pub mod Named
 pub mod Order
 -- Condition 3: the law about lists of actions, and that the step obeys it
 pub mod Actions
-pub mod Places
 pub mod Fetches
 pub mod Parts
 pub mod Completed

@@ -21,10 +21,11 @@ use Rattle.machine.specs.Units.{names}
 use Rattle.machine.specs.Turns.{State, Turn, Given, next, given, named, isFetch}
 use Rattle.machine.proofs.Actions.{none, fetch, write, Alike, Leaves, AlikeTo, Laws}
 use Rattle.machine.proofs.Verdicts.{tested, not-both, first-clear}
+use Rattle.machine.proofs.Units.{named-at}
 use Rattle.machine.proofs.Fetches.{same-protection}
 use Rattle.machine.proofs.Plans.{no-record, plan-clear}
 use Rattle.machine.proofs.Parts.{Part, byte, key, processor, lengths, Value, read, whole, touch, touch-twice, planOf, verdictOf, treatment, mode}
-use Rattle.machine.proofs.Completed.{named-at, byte-kept, key-kept, record-kept, lengths-kept, byte-fetched, key-fetched, part-same, answer-same, buffer-same}
+use Rattle.machine.proofs.Completed.{byte-kept, key-kept, record-kept, lengths-kept, byte-fetched, key-fetched, part-same, answer-same, buffer-same}
 
 -- what is left of a part that is named or not, by a fetch or not, which completes or not
 left-of : {P : Type 0} (t : P → P) (v w : P) (isNamed isFetched completes : Bool)

@@ -18,7 +18,7 @@ pub mod Order
 pub mod Actions
 pub mod Fetches
 pub mod Parts
-pub mod Completed
+pub mod Dependence
 pub mod Steps
 pub mod Turns
 pub mod TurnFacts

@@ -3,9 +3,12 @@
 -- Assumes nothing.
 use Prim.Native.Nat.{ℕ, _/_, _%_, _<_, _≤_}
 use mathlib.Core.Path.{_≡_}
-use mathlib.Core.Bool.{true, false, _&&_, _||_}
+use mathlib.Core.Bool.{true, false, _&&_}
+use mathlib.Core.List.{List}
+use native.Mathlib.Nat.{pos-of-ne-zero}
+use lib.ListN.{length}
 use lib.Dec.{eqb, ltb, leb}
-use borrow.Author.Tests.{ltb-true, ltb-false, leb-false, eqb-true, not-false}
+use borrow.Author.Tests.{ltb-true, ltb-false, leb-false, eqb-true, eqb-false, not-false}
 use Rattle.machine.specs.declared.Settings.{Settings}
 use Rattle.machine.specs.declared.Processor.{Processor}
 use Rattle.machine.specs.declared.AccessKind.{AccessKind}
@@ -16,7 +19,7 @@ use Rattle.machine.specs.declared.Verdict.the-variants.{Clear}
 use Rattle.machine.specs.Numbers.{storageValid, lengthsValid, recordValid, unitSize, unitOf, add24}
 use Rattle.machine.specs.Answers.{line, firstOf, firstLine}
 use Rattle.machine.specs.Prefixing.{byteAt}
-use Rattle.machine.specs.Table.{operandInvalid, addressing, plan}
+use Rattle.machine.specs.Table.{operandInvalid, addressing, plan, verdict}
 use Rattle.machine.proofs.Verdicts.{both, neither, line-clear, first-clear, bytes-clear}
 use Rattle.machine.proofs.Prefixing.{prefixing-stays-inside}
 use Rattle.machine.proofs.Units.{unit-inside}
@@ -66,34 +69,42 @@ plan-clear s storageLength keyLength n p r bufferLength e =
       inside = first-clear _ _ (first-clear _ _ (first-clear _ _ (first-clear _ _ (first-clear _ _ (c .1) .1) .1) .1) .1) .0;
     }
 
--- and what is known of such an access
-pub record Passed (s : Settings) (storageLength keyLength : ℕ) (p : Processor) (start count bufferLength : ℕ) : Type 0 where
+-- a request that the whole table lets pass is one of these
+pub clear-plan : (s : Settings) (storageLength : ℕ) (keys : List ℕ) (n : ℕ) (p : Processor) (r : Request) (bufferLength : ℕ)
+    → verdict s storageLength keys n p r bufferLength ≡ Clear → plan s storageLength (length keys) n p r bufferLength ≡ Clear
+unfolding verdict
+clear-plan s storageLength keys n p r bufferLength e = first-clear _ _ e .0
+
+-- what is known of an access that the lines from 64 to 67 let pass
+pub record Passed (storageLength : ℕ) (p : Processor) (start count bufferLength : ℕ) : Type 0 where
+  pub some : 0 < count
   pub short : count ≤ 256
   pub buffered : count ≤ bufferLength
   pub byte-inside : (i : ℕ) → i < count → byteAt p start i < storageLength
-  pub key-inside : (i : ℕ) → i < count → unitOf s (byteAt p start i) < keyLength
 
-pub access-passed : (s : Settings) (storageLength keyLength n : ℕ) (p : Processor) (kind : AccessKind) (start count bufferLength : ℕ)
-    → plan s storageLength keyLength n p (Access kind start count) bufferLength ≡ Clear → Passed s storageLength keyLength p start count bufferLength
-unfolding addressing
-access-passed s storageLength keyLength n p kind start count bufferLength e =
-    record {
-      short = ltb-false _ _ (neither (eqb count 0) _ (neither _ (leb 16777216 start) (operands .0) .0) .1);
-      buffered = ltb-false _ _ (operands .1);
-      byte-inside = byte;
-      key-inside = λ i h. rw (known .keyed) (unit-inside s storageLength (byteAt p start i) (known .whole) (byte i h));
-    }
-  where
-    cleared : Cleared s storageLength keyLength n p (Access kind start count) bufferLength
-    cleared = plan-clear s storageLength keyLength n p (Access kind start count) bufferLength e
+module _ (s : Settings) (storageLength keyLength n : ℕ) (p : Processor) (kind : AccessKind) (start count bufferLength : ℕ)
+    (clear : plan s storageLength keyLength n p (Access kind start count) bufferLength ≡ Clear) where
+  cleared : Cleared s storageLength keyLength n p (Access kind start count) bufferLength
+  cleared = plan-clear s storageLength keyLength n p (Access kind start count) bufferLength clear
 
-    known : Configured s storageLength keyLength p
-    known = configured s storageLength keyLength p (cleared .lengths) (cleared .own)
+  known : Configured s storageLength keyLength p
+  known = configured s storageLength keyLength p (cleared .lengths) (cleared .own)
 
-    operands : (eqb count 0 || ltb 256 count || leb 16777216 start ≡ false) × (ltb bufferLength count ≡ false)
-    operands = neither _ _ (cleared .operands)
+  pub access-passed : Passed storageLength p start count bufferLength
+  unfolding addressing
+  access-passed =
+      let (before, buffered) = neither _ (ltb bufferLength count) (cleared .operands) in
+      let (counts, address) = neither _ (leb 16777216 start) before in
+      let (some, short) = neither (eqb count 0) _ counts in
+      record {
+        some = pos-of-ne-zero (eqb-false count 0 some);
+        short = ltb-false _ _ short;
+        buffered = ltb-false _ _ buffered;
+        byte-inside = λ i h.
+            prefixing-stays-inside (p .prefix) (add24 start i) storageLength (known .whole) (known .installed)
+            (leb-false _ _ (bytes-clear Addressing (λ i. leb storageLength (add24 start i)) count (cleared .inside) i h));
+      }
 
-    byte : (i : ℕ) → i < count → byteAt p start i < storageLength
-    byte i h =
-        prefixing-stays-inside (p .prefix) (add24 start i) storageLength (known .whole) (known .installed)
-        (leb-false _ _ (bytes-clear Addressing (λ i. leb storageLength (add24 start i)) count (cleared .inside) i h))
+  -- the keys of the units that it touches are in the key array
+  pub access-keyed : (i : ℕ) → i < count → unitOf s (byteAt p start i) < keyLength
+  access-keyed i h = rw (known .keyed) (unit-inside s storageLength (byteAt p start i) (known .whole) (access-passed .byte-inside i h))

@@ -9,7 +9,7 @@ use native.Mathlib.Nat.{le-of-suc-le-suc, eq-or-lt-of-le, add-zero, add-suc}
 use native.Mathlib.Omega.{arith}
 use native.Mathlib.Decide.{ℕ-discrete, decLt}
 use lib.ListN.{length, getD, set, length-set}
-use lib.Seq.{getD-set-same, getD-set-other, set-out}
+use lib.Seq.{getD-set-same, getD-set-other, set-out, set-set}
 use Rattle.machine.specs.Numbers.{written}
 
 -- what holds below n and at n holds below n + 1
@@ -71,6 +71,13 @@ pub written-after : (xs : List ℕ) (p v : ℕ → ℕ) (a b : ℕ) → written 
 unfolding written
 written-after xs p v a zero = rw (add-zero a)
 written-after xs p v a (suc b) = rw (add-suc a b, written-after xs p v a b)
+
+-- writes of one value to one place
+pub written-once : (xs : List ℕ) (p v : ℕ → ℕ) (u x n : ℕ) → ((i : ℕ) → i < suc n → (p i ≡ u) × (v i ≡ x)) → written xs p v (suc n) ≡ set xs u x
+unfolding written
+written-once xs p v u x zero same = rw (same 0 (omega arith) .0, same 0 (omega arith) .1)
+written-once xs p v u x (suc n) same =
+    rw (written-once xs p v u x n (λ i h. same i (omega arith)), same (suc n) (omega arith) .0, same (suc n) (omega arith) .1) (set-set xs u x x)
 
 -- two lists of one length that are the same at place j stay so where v is written at place i of the one and w at place i of the other
 pub set-agree : {A : Type 0} (xs ys : List A) (i j : ℕ) (v w d : A)

@@ -2,12 +2,11 @@
 -- decides. Assumes nothing.
 use Prim.Native.Nat.{ℕ, _-_, _%_, _<_, _≤_}
 use mathlib.Core.Path.{_≡_, refl}
-use mathlib.Core.Bool.{Bool, true, false, cond, not, _&&_, and-false}
+use mathlib.Core.Bool.{Bool, true, false, cond, not, _&&_}
 use mathlib.Core.List.{List}
 use native.Mathlib.Omega.{arith}
-use native.Mathlib.Nat.{pos-of-ne-zero}
 use native.Mathlib.Decide.{decLt}
-use borrow.Author.Tests.{ltb-false, leb-false, eqb-true, eqb-false, lt-ltb, le-ltb, lt-leb}
+use borrow.Author.Tests.{ltb-false, leb-false, le-ltb, lt-leb}
 use lib.Dec.{leb, ltb}
 use lib.ListN.{length, getD}
 use Rattle.machine.specs.declared.Settings.{Settings}
@@ -25,11 +24,14 @@ use Rattle.machine.specs.Prefixing.{byteAt}
 use Rattle.machine.specs.Protection.{lowProtected, forbidden}
 use Rattle.machine.specs.Table.{operandInvalid, absoluteOutside, addressing, absoluteAddressing, protection, plan, verdict}
 use Rattle.machine.proofs.Verdicts.{both, neither, first-assoc, bytes-none, bytes-stop}
+use Rattle.machine.proofs.Plans.{configured, operands-passed}
+use Rattle.machine.proofs.AbsoluteAddress.{absolute-inside}
 use Rattle.access.specs.Runs.{second, twoTests, linesAt}
-use Rattle.access.proofs.Runs.{Run, second-below, before-second, from-second, real-below, byte-below, real-step, unit-same}
+use Rattle.access.proofs.Runs.{Run, second-below, before-second, from-second, real-below, real-step, unit-same}
 
 -- where the test fails at byte 0 it fails before byte k, and where it fails at byte k too it fails everywhere
-two-tests : (r : Reason) (test : ℕ → Bool) (n k : ℕ) → k < n → ((i : ℕ) → i < k → test 0 ≡ false → test i ≡ false) → ((i : ℕ) → k ≤ i → i < n → test k ≡ false → test i ≡ false) → firstByte r test n ≡ twoTests r (test 0) k (test k)
+two-tests : (r : Reason) (test : ℕ → Bool) (n k : ℕ) → k < n → ((i : ℕ) → i < k → test 0 ≡ false → test i ≡ false)
+    → ((i : ℕ) → k ≤ i → i < n → test k ≡ false → test i ≡ false) → firstByte r test n ≡ twoTests r (test 0) k (test k)
 unfolding twoTests firstOf
 two-tests r test n k l before after = go (test 0) refl (test k) refl
   where
@@ -52,31 +54,24 @@ low-later Store p x y h e = go (p .«low_protection») e
     go true q = le-ltb y 512 (omega (arith, ltb-false x 512 q))
     go false q = refl
 
-module _ (s : Settings) (m : ℕ) (e : m % 4096 ≡ 0) (p : Processor) (start f i : ℕ) (r : Run s start f i) where
-  inside-later : leb m (add24 start f) ≡ false → leb m (add24 start i) ≡ false
-  inside-later q = lt-leb m (add24 start i) (real-below s start f i r m e (leb-false m (add24 start f) q))
+module _ (s : Settings) (start : ℕ) where
+  inside-later : (m : ℕ) → m % 4096 ≡ 0 → (f i : ℕ) → Run s start f i → leb m (add24 start f) ≡ false → leb m (add24 start i) ≡ false
+  inside-later m e f i r q = lt-leb m (add24 start i) (real-below s start f i r m e (leb-false m (add24 start f) q))
 
-  absolute-later : absoluteOutside m p (add24 start f) ≡ false → absoluteOutside m p (add24 start i) ≡ false
-  absolute-later = go (decLt (add24 start f) m)
-    where
-      go : Dec (add24 start f < m) → absoluteOutside m p (add24 start f) ≡ false → absoluteOutside m p (add24 start i) ≡ false
-      go (yes l) q =
-          rw (lt-leb m (byteAt p start i) (byte-below s start f i r p m e (leb-false m (byteAt p start f) (rw (lt-ltb (add24 start f) m l) at q))))
-          (and-false (ltb (add24 start i) m))
-      go (no l) q = rw (le-ltb (add24 start i) m (omega (arith, real-step s start f i r)))
-
-  permitted-later : (keys : List ℕ) (kind : AccessKind) → forbidden kind p (add24 start f) (getD keys (unitOf s (byteAt p start f)) 0) ≡ false → forbidden kind p (add24 start i) (getD keys (unitOf s (byteAt p start i)) 0) ≡ false
-  permitted-later keys kind q =
+  permitted-later : (p : Processor) (keys : List ℕ) (kind : AccessKind) (f i : ℕ) → Run s start f i
+      → forbidden kind p (add24 start f) (getD keys (unitOf s (byteAt p start f)) 0) ≡ false
+      → forbidden kind p (add24 start i) (getD keys (unitOf s (byteAt p start i)) 0) ≡ false
+  permitted-later p keys kind f i r q =
       let t = neither (lowProtected kind p (add24 start f)) _ q in
       rw (low-later kind p (add24 start f) (add24 start i) (omega (arith, real-step s start f i r)) (t .0), unit-same s start f i r p) (t .1)
 
-module _ (s : Settings) (m : ℕ) (e : m % 4096 ≡ 0) (p : Processor) (start count : ℕ) (some : 0 < count) (few : count ≤ 256) where
   -- a test that does not begin to hold inside a run is decided by two bytes
-  by-two : (r : Reason) (test : ℕ → Bool) → ((f i : ℕ) → Run s start f i → test f ≡ false → test i ≡ false) → firstByte r test count ≡ twoTests r (test 0) (second s start count) (test (second s start count))
-  by-two r test later =
-      two-tests r test count (second s start count) (second-below s start count some few)
-      (λ i h. later 0 i (before-second s start count some few i h))
-      (λ i h l. later (second s start count) i (from-second s start count some few i h l))
+  by-two : (count : ℕ) → 0 < count → count ≤ 256 → (r : Reason) (test : ℕ → Bool) → ((f i : ℕ) → Run s start f i → test f ≡ false → test i ≡ false)
+      → firstByte r test count ≡ twoTests r (test 0) (second s start count) (test (second s start count))
+  by-two count some short r test later =
+      two-tests r test count (second s start count) (second-below s start count some short)
+      (λ i h. later 0 i (before-second s start count some short i h))
+      (λ i h l. later (second s start count) i (from-second s start count some short i h l))
 
 -- lines 64, 65 and 66, and then lines 5, 67 and 4 at two bytes
 abbrev byUnit : Settings → ℕ → List ℕ → ℕ → Processor → AccessKind → ℕ → ℕ → ℕ → Verdict
@@ -85,23 +80,25 @@ byUnit s m keys n p kind start count b =
     (firstOf (line Operand (operandInvalid (Access kind start count) b))
     (linesAt s m keys p kind start (second s start count)))
 
-pub by-unit : (s : Settings) (m : ℕ) (keys : List ℕ) (n : ℕ) (p : Processor) (kind : AccessKind) (start count b : ℕ) → byUnit s m keys n p kind start count b ≡ verdict s m keys n p (Access kind start count) b
+pub by-unit : (s : Settings) (m : ℕ) (keys : List ℕ) (n : ℕ) (p : Processor) (kind : AccessKind) (start count b : ℕ)
+    → byUnit s m keys n p kind start count b ≡ verdict s m keys n p (Access kind start count) b
 unfolding line firstOf firstLine plan verdict addressing absoluteAddressing protection
-by-unit s m keys n p kind start count b = go (lengthsValid s m (length keys)) refl (ltb n 2 && recordValid m p) refl (operandInvalid (Access kind start count) b) refl
+by-unit s m keys n p kind start count b =
+    go (lengthsValid s m (length keys)) refl (ltb n 2 && recordValid m p) refl (operandInvalid (Access kind start count) b) refl
   where
-    go : (x : Bool) → lengthsValid s m (length keys) ≡ x → (y : Bool) → (ltb n 2 && recordValid m p) ≡ y → (z : Bool) → operandInvalid (Access kind start count) b ≡ z → byUnit s m keys n p kind start count b ≡ verdict s m keys n p (Access kind start count) b
+    go : (x : Bool) → lengthsValid s m (length keys) ≡ x → (y : Bool) → (ltb n 2 && recordValid m p) ≡ y
+        → (z : Bool) → operandInvalid (Access kind start count) b ≡ z
+        → byUnit s m keys n p kind start count b ≡ verdict s m keys n p (Access kind start count) b
     go true ex true ey false ez =
-        let e : m % 4096 ≡ 0 = eqb-true (m % 4096) 0 (both _ _ (both _ _ (both _ _ ex .0) .0) .0) in
-        let few = neither _ _ (neither _ _ (neither _ _ ez .0) .0) in
-        let some : 0 < count = pos-of-ne-zero (eqb-false count 0 (few .0)) in
-        let most : count ≤ 256 = ltb-false 256 count (few .1) in
+        let valid = both (ltb n 2) _ ey .1 in
+        let (some, short, buffered) = operands-passed kind start count b ez in
         rw (
           ex,
           ey,
           ez,
-          by-two s m e p start count some most Addressing (λ i. leb m (add24 start i)) (λ f i r. inside-later s m e p start f i r),
-          by-two s m e p start count some most AbsoluteAddress (λ i. absoluteOutside m p (add24 start i)) (λ f i r. absolute-later s m e p start f i r),
-          by-two s m e p start count some most Protection (λ i. forbidden kind p (add24 start i) (getD keys (unitOf s (byteAt p start i)) 0)) (λ f i r. permitted-later s m e p start f i r keys kind),
+          by-two s start count some short Addressing (λ i. leb m (add24 start i)) (inside-later s start m (configured s m (length keys) p ex valid .whole)),
+          by-two s start count some short AbsoluteAddress (λ i. absoluteOutside m p (add24 start i)) (λ f i r q. absolute-inside s m (length keys) p ex valid (add24 start i)),
+          by-two s start count some short Protection (λ i. forbidden kind p (add24 start i) (getD keys (unitOf s (byteAt p start i)) 0)) (permitted-later s start p keys kind),
         )
         (simp first-assoc)
     go true ex true ey true ez = rw (ex, ey, ez)

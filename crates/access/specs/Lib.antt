@@ -1,3 +1,2 @@
 -- What the helpers of an access mean.
 pub mod Runs
-pub mod Passed

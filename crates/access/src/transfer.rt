@@ -14,7 +14,7 @@ ghost use Rattle.machine.specs.Numbers.{unitOf, written};
 ghost use Rattle.machine.specs.Prefixing.{byteAt};
 ghost use Rattle.machine.specs.Step.{storageLeft, bufferLeft};
 ghost use Rattle.access.specs.Runs.{bothRecorded};
-ghost use Rattle.access.specs.Passed.{Passed};
+ghost use Rattle.machine.proofs.Plans.{Passed};
 
 // A run of a store: n bytes from `from` on go to the absolute address `base` and those after it. The run has the real addresses from
 // `real` on, each made by the 24-bit addition; that it does not wrap is known, and is tested so that the compiler knows it too.
@@ -78,7 +78,7 @@ pub(crate) fn store_bytes(
     count: u32,
     bytes: &[u8],
 )
-    requires { ⌜ Passed settings (length (now storage)) (unitOf settings (length (now storage))) p start count (length (now bytes)) ⌝ }
+    requires { ⌜ Passed (length (now storage)) p start count (length (now bytes)) ⌝ }
     ensures { λ _. ⌜ now (storage .exit) ≡ storageLeft AccessKind.Store (now (storage .entry)) p start count (now (bytes .entry)) ⌝ }
 {
     let first = left(settings, start);
@@ -121,7 +121,7 @@ pub(crate) fn fetch_bytes(
     count: u32,
     buffer: &mut [u8],
 )
-    requires { ⌜ Passed settings (length (now storage)) (unitOf settings (length (now storage))) p start count (length (now buffer)) ⌝ }
+    requires { ⌜ Passed (length (now storage)) p start count (length (now buffer)) ⌝ }
     ensures { λ _. ⌜ now (buffer .exit) ≡ bufferLeft AccessKind.Fetch (now (storage .entry)) p start count (now (buffer .entry)) ⌝ }
 {
     let first = left(settings, start);

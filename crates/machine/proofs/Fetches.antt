@@ -1,43 +1,44 @@
--- What a completed fetch keeps of a key: access control, fetch protection and change. So a second fetch leaves the key as the first did, and
--- no byte is forbidden or permitted by a fetch. Assumes nothing.
+-- Fetches. What a completed one keeps of a key is access control, fetch protection and change: so a second fetch leaves the key as the first
+-- did, and no byte is forbidden or permitted by a fetch. Assumes nothing.
 use Prim.Native.Nat.{ℕ, _<_}
 use mathlib.Core.Path.{_≡_, refl, sym, ap, _∙_}
+use mathlib.Core.Bool.{true}
 use mathlib.Core.List.{List}
-use native.Mathlib.Omega.{arith}
-use lib.ListN.{getD}
+use lib.ListN.{length, getD}
 use Rattle.machine.specs.declared.Settings.{Settings}
 use Rattle.machine.specs.declared.Processor.{Processor}
 use Rattle.machine.specs.declared.Request.{Request}
 use Rattle.machine.specs.declared.Request.the-variants.{Access, Key, Prefix}
 use Rattle.machine.specs.declared.AccessKind.{AccessKind}
 use Rattle.machine.specs.declared.AccessKind.the-variants.{Fetch, Store}
-use Rattle.machine.specs.Numbers.{add24}
-use Rattle.machine.specs.Key.{keyByte, accessControl, fetchProtection, change, afterFetch}
+use Rattle.machine.specs.declared.Verdict.the-variants.{Clear}
+use Rattle.machine.specs.Numbers.{own, add24}
+use Rattle.machine.specs.Key.{accessControl, fetchProtection, afterFetch}
 use Rattle.machine.specs.Protection.{permitted, forbidden}
-use Rattle.machine.specs.Table.{protection}
-use Rattle.machine.specs.Units.{unitAt, unitCount}
-use Rattle.machine.proofs.Verdicts.{bytes-same}
-
-key-bits : (c f h : ℕ) → c < 16 → f < 2 → h < 2
-    → (accessControl (keyByte c f 1 h) ≡ c) × (fetchProtection (keyByte c f 1 h) ≡ f) × (change (keyByte c f 1 h) ≡ h)
-key-bits c f h cs fs hs = omega arith
-
-bits-kept : (k : ℕ)
-    → (accessControl (afterFetch k) ≡ accessControl k) × (fetchProtection (afterFetch k) ≡ fetchProtection k) × (change (afterFetch k) ≡ change k)
-unfolding afterFetch
-bits-kept k = key-bits (accessControl k) (fetchProtection k) (change k) (omega arith) (omega arith) (omega arith)
+use Rattle.machine.specs.Table.{protection, verdict}
+use Rattle.machine.specs.Step.{step}
+use Rattle.machine.specs.Units.{unitAt, unitCount, names}
+use Rattle.machine.specs.Turns.{isFetch}
+use Rattle.machine.proofs.Verdicts.{not-both, bytes-same}
+use Rattle.machine.proofs.KeyBytes.{key-recorded}
+use Rattle.machine.proofs.Units.{named-by}
+use Rattle.machine.proofs.Requests.{completed-by-table}
+use Rattle.machine.proofs.Accesses.{access-leaves-key, fetch-leaves-storage}
 
 pub fetched-twice : (k : ℕ) → afterFetch (afterFetch k) ≡ afterFetch k
 unfolding afterFetch
-fetched-twice k = let (c, f, h) = bits-kept k in rw (c, f, h)
+fetched-twice k = let kept = key-recorded Fetch k in rw (kept .access-control, kept .fetch-protection, kept .change-bit)
 
 module _ (k l : ℕ) (same : afterFetch k ≡ afterFetch l) where
   same-control : accessControl k ≡ accessControl l
-  same-control = sym (bits-kept k .0) ∙ ap accessControl same ∙ bits-kept l .0
+  same-control = sym (key-recorded Fetch k .access-control) ∙ ap accessControl same ∙ key-recorded Fetch l .access-control
+
+  same-fetch-protection : fetchProtection k ≡ fetchProtection l
+  same-fetch-protection = sym (key-recorded Fetch k .fetch-protection) ∙ ap fetchProtection same ∙ key-recorded Fetch l .fetch-protection
 
   same-forbidden : (kind : AccessKind) (p : Processor) (real : ℕ) → forbidden kind p real k ≡ forbidden kind p real l
   unfolding permitted
-  same-forbidden Fetch p real = rw (same-control, sym (bits-kept k .1) ∙ ap fetchProtection same ∙ bits-kept l .1)
+  same-forbidden Fetch p real = rw (same-control, same-fetch-protection)
   same-forbidden Store p real = rw same-control
 
 -- line 4 is the same by keys that a fetch would leave the same
@@ -49,3 +50,21 @@ same-protection s p keys others (Access kind start count) same =
     bytes-same _ _ _ count (λ i h. same-forbidden _ _ (same i h) kind p (add24 start i))
 same-protection s p keys others (Key i) same = refl
 same-protection s p keys others (Prefix i) same = refl
+
+-- what a fetch leaves: storage as it was, and of each key that it names, if it completes, what a completed fetch makes of it
+pub fetch-leaves : (s : Settings) (storage keys : List ℕ) (ps : List Processor) (n : ℕ) (r : Request) (buffer : List ℕ) → isFetch r ≡ true
+    → (step s storage keys ps n r buffer .storage ≡ storage)
+    × (verdict s (length storage) keys n (own ps n) r (length buffer) ≡ Clear → (u : ℕ) → names Clear s (own ps n) r u ≡ true
+    → getD (step s storage keys ps n r buffer .keys) u 0 ≡ afterFetch (getD keys u 0))
+fetch-leaves s storage keys ps n (Access Fetch start count) buffer f = (fetch-leaves-storage s storage keys ps n start count buffer, at)
+  where
+    at : verdict s (length storage) keys n (own ps n) (Access Fetch start count) (length buffer) ≡ Clear
+        → (u : ℕ) → names Clear s (own ps n) (Access Fetch start count) u ≡ true
+        → getD (step s storage keys ps n (Access Fetch start count) buffer .keys) u 0 ≡ afterFetch (getD keys u 0)
+    at clear u named =
+        let (i, h, q) = named-by s (own ps n) (Access Fetch start count) u named in
+        let done = completed-by-table s storage keys ps n (Access Fetch start count) buffer .1 clear in
+        rw q at (access-leaves-key s storage keys ps n start count buffer Fetch done i h)
+fetch-leaves s storage keys ps n (Access Store start count) buffer f = absurd (not-both f refl)
+fetch-leaves s storage keys ps n (Key i) buffer f = absurd (not-both f refl)
+fetch-leaves s storage keys ps n (Prefix i) buffer f = absurd (not-both f refl)

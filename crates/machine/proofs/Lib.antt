@@ -18,10 +18,9 @@ pub mod Named
 pub mod Order
 -- Condition 3: the law about lists of actions, and that the step obeys it
 pub mod Actions
-pub mod Places
 pub mod Fetches
 pub mod Parts
-pub mod Completed
+pub mod Dependence
 pub mod Steps
 pub mod Turns
 pub mod TurnFacts

@@ -1,16 +1,15 @@
 -- Laws of every request: the answer is the verdict of the table, with any number but 0 nothing changes, lengths stay, a request reads and
 -- changes no record but its own processor's. The proofs go by the verdict and, where it is clear, by the kind of request.
 -- Assumes nothing.
-use Prim.Native.Nat.{ℕ, _<_, _≤_}
+use Prim.Native.Nat.{ℕ, _≤_}
 use mathlib.Core.Path.{_≡_, refl, sym, ap, subst, _∙_}
 use mathlib.Core.Bool.{Bool, true, false, cond, not}
 use mathlib.Core.Logic.{_≢_, _↔_}
 use mathlib.Core.List.{List}
-use native.Mathlib.Decide.{decLt}
 use lib.Dec.{eqb}
 use native.Mathlib.Omega.{arith}
 use lib.ListN.{length, set, length-set}
-use lib.Seq.{set-out, getD-set-same, getD-set-other}
+use lib.Seq.{getD-set-other}
 use borrow.Author.Tests.{le-ltb}
 use Rattle.machine.specs.declared.Settings.{Settings}
 use Rattle.machine.specs.declared.Processor.{Processor}
@@ -28,9 +27,10 @@ use Rattle.machine.specs.Numbers.{own, lengthsValid}
 use Rattle.machine.specs.Answers.{number, Values, values, line, firstOf, firstLine}
 use Rattle.machine.specs.KeyInstructions.{operation, keyCount, keysLeft}
 use Rattle.machine.specs.Table.{protection, plan, verdict}
-use Rattle.machine.specs.Step.{Outcome, storageLeft, bufferLeft, keysRecorded, completed, performed, step}
-use Rattle.machine.proofs.Written.{length-written}
-use Rattle.machine.proofs.Verdicts.{not-clear, first-clear}
+use Rattle.machine.specs.Step.{Outcome, outcome, storageLeft, bufferLeft, keysRecorded, completed, performed, step}
+use Rattle.machine.proofs.Written.{length-written, set-agree}
+use Rattle.machine.proofs.Verdicts.{not-clear, first-none}
+use Rattle.machine.proofs.Plans.{clear-plan}
 use Rattle.machine.proofs.AbsoluteAddress.{table-never-67}
 
 -- every refusal has a number that is not 0
@@ -82,6 +82,19 @@ length-keys-left keys u two (Insert r1) = refl
 length-keys-left keys u two (Set r1) = length-written keys _ _ (keyCount two)
 length-keys-left keys u two Reset = length-written keys _ _ (keyCount two)
 
+-- the lengths of storage, key array, pair of records and buffer are the same after it
+abbrev pub SameLengths : List ℕ → List ℕ → List Processor → List ℕ → Outcome → Type 0
+SameLengths storage keys ps buffer o =
+    (length (o .storage) ≡ length storage) × (length (o .keys) ≡ length keys) × (length (o .processors) ≡ length ps) × (length (o .buffer) ≡ length buffer)
+
+pub completed-lengths : (s : Settings) (storage keys : List ℕ) (ps : List Processor) (n : ℕ) (p : Processor) (buffer : List ℕ) (r : Request)
+    → SameLengths storage keys ps buffer (completed s storage keys ps n p r buffer)
+unfolding completed storageLeft bufferLeft keysRecorded
+completed-lengths s storage keys ps n p buffer (Access Fetch start count) = (refl, length-written keys _ _ count, refl, length-written buffer _ _ count)
+completed-lengths s storage keys ps n p buffer (Access Store start count) = (length-written storage _ _ count, length-written keys _ _ count, refl, refl)
+completed-lengths s storage keys ps n p buffer (Key i) = (refl, length-keys-left keys _ _ (operation i), length-set ps n _, refl)
+completed-lengths s storage keys ps n p buffer (Prefix i) = (refl, refl, length-set ps n _, refl)
+
 -- two outcomes are the same but for the records of other processors than n
 abbrev pub Alike : ℕ → Outcome → Outcome → Type 0
 Alike n a b =
@@ -99,10 +112,6 @@ module _ (s : Settings) (storage keys : List ℕ) (ps : List Processor) (n : ℕ
   -- what is left where nothing changes
   abbrev unchanged : Values → Outcome
   unchanged answer = record { answer = answer; storage = storage; keys = keys; processors = ps; buffer = buffer }
-
-  abbrev SameLengths : Outcome → Type 0
-  SameLengths o =
-      (length (o .storage) ≡ length storage) × (length (o .keys) ≡ length keys) × (length (o .processors) ≡ length ps) × (length (o .buffer) ≡ length buffer)
 
   -- what holds of a refusal by the verdict, and of the completed request where the verdict is clear, holds of the step
   pub by-verdict : (P : Outcome → Type 0)
@@ -157,19 +166,11 @@ module _ (s : Settings) (storage keys : List ℕ) (ps : List Processor) (n : ℕ
       (λ reason place e h. absurd (refusal-number reason h)) (λ e h. refl)
 
   pub completed-plan : after .answer .number ≡ 0 → plan s (length storage) (length keys) n (own ps n) r (length buffer) ≡ Clear
-  unfolding verdict
-  completed-plan h = first-clear _ _ (completed-by-table .0 h) .0
+  completed-plan h = clear-plan s (length storage) keys n (own ps n) r (length buffer) (completed-by-table .0 h)
 
   -- the lengths of storage, key array, pair of records and buffer never change
-  pub lengths-stay : SameLengths after
-  unfolding completed storageLeft bufferLeft keysRecorded
-  lengths-stay = either-way SameLengths (λ answer. (refl, refl, refl, refl)) (go r)
-    where
-      go : (r : Request) → SameLengths (completed s storage keys ps n (own ps n) r buffer)
-      go (Access Fetch start count) = (refl, length-written keys _ _ count, refl, length-written buffer _ _ count)
-      go (Access Store start count) = (length-written storage _ _ count, length-written keys _ _ count, refl, refl)
-      go (Key i) = (refl, length-keys-left keys _ _ (operation i), length-set ps n _, refl)
-      go (Prefix i) = (refl, refl, length-set ps n _, refl)
+  pub lengths-stay : SameLengths storage keys ps buffer after
+  lengths-stay = either-way (SameLengths storage keys ps buffer) (λ answer. (refl, refl, refl, refl)) (completed-lengths s storage keys ps n (own ps n) buffer r)
 
   -- no record but the processor's own changes
   pub other-record-stays : (m : ℕ) → m ≢ n → own (after .processors) m ≡ own ps m
@@ -186,14 +187,13 @@ module _ (s : Settings) (storage keys : List ℕ) (ps : List Processor) (n : ℕ
   unfolding step performed completed
   own-record-only qs l e = rw e (go (verdict s (length storage) keys n (own qs n) r (length buffer)))
     where
-      replaced : Dec (n < length ps) → (p : Processor) → own (set ps n p) n ≡ own (set qs n p) n
-      replaced (yes h) p = rw (getD-set-same ps n p _ h, getD-set-same qs n p _ (rw l at h))
-      replaced (no h) p = rw (set-out ps n p (omega arith), set-out qs n p (omega arith), e)
+      replaced : (p : Processor) → own (set ps n p) n ≡ own (set qs n p) n
+      replaced p = set-agree ps qs n n p p _ l e (λ q. refl)
 
       done : (p : Processor) (r : Request) → Alike n (completed s storage keys ps n p r buffer) (completed s storage keys qs n p r buffer)
       done p (Access kind start count) = (refl, refl, refl, refl, e)
-      done p (Key i) = (refl, refl, refl, refl, replaced (decLt n (length ps)) _)
-      done p (Prefix i) = (refl, refl, refl, refl, replaced (decLt n (length ps)) _)
+      done p (Key i) = (refl, refl, refl, refl, replaced _)
+      done p (Prefix i) = (refl, refl, refl, refl, replaced _)
 
       go : (v : Verdict) → Alike n (performed v s storage keys ps n r buffer) (performed v s storage keys qs n r buffer)
       go (Stop reason place) = (refl, refl, refl, refl, e)
@@ -209,3 +209,28 @@ module _ (s : Settings) (storage keys : List ℕ) (ps : List Processor) (n : ℕ
           ≡ unchanged (values (cond b (Refused Record 0) (Refused Configuration 0)))
       go true = refl
       go false = refl
+
+-- The step from what a routine finds: p is the record of its processor and v the verdict.
+module _ (s : Settings) (storage keys : List ℕ) (ps : List Processor) (n : ℕ) (r : Request) (buffer : List ℕ) {p : Processor} {v : Verdict}
+    (record-found : p ≡ own ps n) (verdict-found : v ≡ verdict s (length storage) keys n p r (length buffer)) where
+  pub refused-request : {reason : Reason} {place : ℕ} → v ≡ Stop reason place
+      → outcome (Refused reason place) storage keys ps buffer ≡ step s storage keys ps n r buffer
+  unfolding step performed
+  refused-request e = rw (← record-found, ← verdict-found, e)
+
+  pub completed-request : v ≡ Clear → completed s storage keys ps n p r buffer ≡ step s storage keys ps n r buffer
+  unfolding step performed
+  completed-request e = rw (← record-found, ← verdict-found, e, ← record-found)
+
+-- The verdict on a request that is no access is that of its plan, which looks at no buffer and of storage at the length alone.
+abbrev pub NoAccess : Request → Type 0
+NoAccess (Access kind start count) = ⊥
+NoAccess (Key i) = Unit {0}
+NoAccess (Prefix i) = Unit {0}
+
+pub verdict-is-plan : (s : Settings) (storage keys : List ℕ) (n : ℕ) (p : Processor) (r : Request) (buffer : List ℕ) {storageLength : ℕ} {v : Verdict}
+    → NoAccess r → length storage ≡ storageLength → v ≡ plan s storageLength (length keys) n p r 0 → v ≡ verdict s (length storage) keys n p r (length buffer)
+unfolding verdict protection plan
+verdict-is-plan s storage keys n p (Key i) buffer other sized found = rw (sized, first-none) found
+verdict-is-plan s storage keys n p (Prefix i) buffer other sized found = rw (sized, first-none) found
+verdict-is-plan s storage keys n p (Access kind start count) buffer other sized found = absurd other

@@ -1,13 +1,14 @@
--- The step obeys the laws of actions. It goes by its verdict: a refused request leaves everything as it was, and to one that completes the laws
--- of completed requests apply. In two states that are alike to it a request has one plan, so it names the same units, and one verdict.
+-- The step obeys the laws of actions. What it leaves of each part follows from the laws of a single request. In two states that are alike to it
+-- a request has one plan, so it names the same units, and one verdict; where that is clear, what it leaves and gives back is the same.
 -- Assumes nothing.
 use Prim.Native.Nat.{ℕ, _<_}
 use mathlib.Core.Path.{_≡_, refl, sym, ap}
 use mathlib.Core.Bool.{Bool, true, false, cond, _&&_}
-use mathlib.Core.Logic.{_≢_, ⊎-elim}
+use mathlib.Core.Logic.{⊎-elim}
+use native.Mathlib.Decide.{ℕ-discrete}
 use native.Mathlib.Omega.{arith}
 use lib.Dec.{eqb, ltb}
-use borrow.Author.Tests.{ltb-true, eq-eqb, lt-ltb}
+use borrow.Author.Tests.{ltb-true, ltb-false, eq-eqb, lt-ltb}
 use Rattle.machine.specs.declared.Settings.{Settings}
 use Rattle.machine.specs.declared.Processor.{Processor}
 use Rattle.machine.specs.declared.Verdict.{Verdict}
@@ -20,11 +21,14 @@ use Rattle.machine.specs.Step.{performed, step}
 use Rattle.machine.specs.Units.{names}
 use Rattle.machine.specs.Turns.{State, Turn, Given, next, given, named, isFetch}
 use Rattle.machine.proofs.Actions.{none, fetch, write, Alike, Leaves, AlikeTo, Laws}
-use Rattle.machine.proofs.Verdicts.{tested, not-both, first-clear}
-use Rattle.machine.proofs.Fetches.{same-protection}
-use Rattle.machine.proofs.Plans.{no-record, plan-clear}
-use Rattle.machine.proofs.Parts.{Part, byte, key, processor, lengths, Value, read, whole, touch, touch-twice, planOf, verdictOf, treatment, mode}
-use Rattle.machine.proofs.Completed.{named-at, byte-kept, key-kept, record-kept, lengths-kept, byte-fetched, key-fetched, part-same, answer-same, buffer-same}
+use Rattle.machine.proofs.Verdicts.{tested, not-both}
+use Rattle.machine.proofs.Units.{named-at}
+use Rattle.machine.proofs.Fetches.{same-protection, fetch-leaves}
+use Rattle.machine.proofs.Plans.{no-record, plan-clear, clear-plan}
+use Rattle.machine.proofs.Requests.{lengths-stay, other-record-stays, other-number-refused}
+use Rattle.machine.proofs.Named.{only-named-bytes-change, only-named-keys-change}
+use Rattle.machine.proofs.Parts.{Part, byte, key, processor, lengths, Value, read, whole, touch, touch-twice, planOf, verdictOf, isClear, treatment, mode}
+use Rattle.machine.proofs.Dependence.{part-same, answer-same, buffer-same}
 
 -- what is left of a part that is named or not, by a fetch or not, which completes or not
 left-of : {P : Type 0} (t : P → P) (v w : P) (isNamed isFetched completes : Bool)
@@ -33,6 +37,10 @@ left-of : {P : Type 0} (t : P → P) (v w : P) (isNamed isFetched completes : Bo
 left-of t v w false f c kept fetched = kept refl
 left-of t v w true true c kept fetched = fetched refl refl
 left-of t v w true false c kept fetched = tt
+
+same-either : {P : Type 0} (c : Bool) (v : P) → v ≡ cond c v v
+same-either true v = refl
+same-either false v = refl
 
 -- values that are alike to a request that names their part are the same to a fetch
 as-fetched : {P : Type 0} (t : P → P) (v w : P) (isFetched completes : Bool)
@@ -48,35 +56,37 @@ module _ (s : Settings) (t : Turn) where
   abbrev namesUnit : State → ℕ → Bool
   namesUnit m u = names Clear s (ownRecord m) (t .request) u
 
-  clear-plan : (m : State) → verdictOf s m t ≡ Clear → planOf s m t ≡ Clear
-  unfolding verdict
-  clear-plan m e = first-clear _ _ e .0
+  module _ (m : State) where
+    key-fetched : (v : Verdict) → verdictOf s m t ≡ v → (u : ℕ) → named s u m t ≡ true → isFetch (t .request) ≡ true
+        → read (next s m t) (key u) ≡ cond (isClear v) (afterFetch (read m (key u))) (read m (key u))
+    unfolding step performed
+    key-fetched (Stop reason place) e u n f = rw e
+    key-fetched Clear e u n f =
+        fetch-leaves s (m .storage) (m .keys) (m .processors) (t .number) (t .request) (t .buffer) f .1 e u (rw (clear-plan s _ _ _ _ (t .request) _ e) at n)
 
-  not-own : (m : State) (i : ℕ) → planOf s m t ≡ Clear → eqb i (t .number) && ltb i 2 ≡ false → i ≢ t .number
-  not-own m i clear f q =
-      let h = plan-clear s _ _ (t .number) _ (t .request) _ clear .number in
-      not-both (rw (eq-eqb i (t .number) q, lt-ltb i 2 (omega arith))) f
+    -- a record that is not its processor's; where the number is not 0 or 1, any
+    record-kept : (i : ℕ) → eqb i (t .number) && ltb i 2 ≡ false → read (next s m t) (processor i) ≡ read m (processor i)
+    record-kept i f = go (ℕ-discrete i (t .number))
+      where
+        go : Dec (i ≡ t .number) → read (next s m t) (processor i) ≡ read m (processor i)
+        go (no d) = other-record-stays s (m .storage) (m .keys) (m .processors) (t .number) (t .request) (t .buffer) i d
+        go (yes q) =
+            rw (other-number-refused s (m .storage) (m .keys) (m .processors) (t .number) (t .request) (t .buffer)
+            (omega (arith, ltb-false i 2 (rw (eq-eqb i (t .number) q) at f))))
 
-  leaves : (m : State) (v : Verdict) → verdictOf s m t ≡ v
-      → (q : Part) → Leaves (mode s m t q) (touch q) (read m q) (read (next s m t) q)
-  unfolding step performed
-  leaves m (Stop reason place) e (byte a) = rw e (left-of _ _ _ (named s (unitOf s a) m t) (isFetch (t .request)) false (λ n. refl) (λ n f. refl))
-  leaves m (Stop reason place) e (key u) = rw e (left-of _ _ _ (named s u m t) (isFetch (t .request)) false (λ n. refl) (λ n f. refl))
-  leaves m (Stop reason place) e (processor i) = rw e (left-of _ _ _ (eqb i (t .number) && ltb i 2) false false (λ n. refl) (λ n f. refl))
-  leaves m (Stop reason place) e lengths = rw e
-  leaves m Clear e (byte a) =
-      rw (e, clear-plan m e)
-      (left-of _ _ _ (namesUnit m (unitOf s a)) (isFetch (t .request)) true
-      (byte-kept s _ (t .number) (t .buffer) m (t .request) a) (λ n. byte-fetched s _ (t .number) (t .buffer) m (t .request) a))
-  leaves m Clear e (key u) =
-      rw (e, clear-plan m e)
-      (left-of _ _ _ (namesUnit m u) (isFetch (t .request)) true
-      (key-kept s _ (t .number) (t .buffer) m (t .request) u) (key-fetched s _ (t .number) (t .buffer) m (t .request) u (clear-plan m e)))
-  leaves m Clear e (processor i) =
-      rw e
-      (left-of _ _ _ (eqb i (t .number) && ltb i 2) false true
-      (λ n. record-kept s _ (t .number) (t .buffer) m (t .request) i (not-own m i (clear-plan m e) n)) (λ n f. absurd (not-both f refl)))
-  leaves m Clear e lengths = rw e (lengths-kept s _ (t .number) (t .buffer) m (t .request))
+    leaves : (q : Part) → Leaves (mode s m t q) (touch q) (read m q) (read (next s m t) q)
+    leaves (byte a) =
+        left-of _ _ _ (named s (unitOf s a) m t) (isFetch (t .request)) _
+        (only-named-bytes-change s (m .storage) (m .keys) (m .processors) (t .number) (t .request) (t .buffer) a)
+        (λ n f. rw (fetch-leaves s (m .storage) (m .keys) (m .processors) (t .number) (t .request) (t .buffer) f .0) (same-either (isClear (verdictOf s m t)) _))
+    leaves (key u) =
+        left-of _ _ _ (named s u m t) (isFetch (t .request)) _
+        (only-named-keys-change s (m .storage) (m .keys) (m .processors) (t .number) (t .request) (t .buffer) u)
+        (key-fetched (verdictOf s m t) refl u)
+    leaves (processor i) = left-of _ _ _ (eqb i (t .number) && ltb i 2) false true (record-kept i) (λ n f. absurd (not-both f refl))
+    leaves lengths =
+        let (a, b, c, d) = lengths-stay s (m .storage) (m .keys) (m .processors) (t .number) (t .request) (t .buffer) in
+        rw (a, b, c)
 
   module _ (m o : State) (alike : AlikeTo (mode s) read touch m o t) where
     same-own : t .number < 2 → ownRecord o ≡ ownRecord m
@@ -129,7 +139,7 @@ module _ (s : Settings) (t : Turn) where
     unfolding step performed
     same-given (Stop reason place) e = rw (same-verdict, e)
     same-given Clear e =
-        let clear = clear-plan m e in
+        let clear = clear-plan s _ _ _ _ (t .request) _ e in
         let answers = answer-same s _ (t .number) (t .buffer) m o (alike lengths) (t .request) (same-keys clear) in
         let buffers = buffer-same s _ (t .number) (t .buffer) m o (alike lengths) (t .request) (same-bytes clear) in
         rw (same-verdict, e, same-record clear, answers, buffers)
@@ -138,7 +148,7 @@ module _ (s : Settings) (t : Turn) where
     unfolding step performed
     same-written (Stop reason place) e q w = rw (same-verdict, e) (sym w)
     same-written Clear e q w =
-        let clear = clear-plan m e in
+        let clear = clear-plan s _ _ _ _ (t .request) _ e in
         rw (same-verdict, e, same-record clear)
         (sym (part-same s _ (t .number) (t .buffer) m o (alike lengths) (t .request) (same-keys clear) q w))
 
@@ -147,7 +157,7 @@ laws s =
     record {
       whole = whole;
       touch-twice = touch-twice;
-      leaves = λ m t. leaves s t m (verdictOf s m t) refl;
+      leaves = λ m t. leaves s t m;
       same-mode = λ m o t. same-mode s t m o;
       same-given = λ m o t alike. same-given s t m o alike (verdictOf s m t) refl;
       same-written = λ m o t alike q w. same-written s t m o alike (verdictOf s m t) refl q (rw w at (alike q));

@@ -1,8 +1,8 @@
 -- `store` is the rules' step: by the verdict of the table. Assumes nothing.
 use mathlib.Core.Path.{sym, _∙_}
-use Rattle.machine.specs.declared.AccessKind.the-variants.{Store}
 use Rattle.machine.specs.Step.{bufferLeft}
-use Rattle.access.proofs.Completed.{bytes-may-move, keys-may-change, completed-access, refused-request}
+use Rattle.machine.proofs.Requests.{refused-request}
+use Rattle.access.proofs.Completed.{bytes-may-move, keys-may-change, completed-access}
 use borrow.Author.Needs.{needs}
 use Rattle.access.proofs.store.Statement.{statement}
 use Rattle.access.proofs.store.Tie as tie
@@ -17,13 +17,13 @@ enum-told : tie.Need-enum-told
 enum-told c = search needs
 
 store-bytes-requires : tie.Need-store-bytes-requires
-store-bytes-requires c κs = bytes-may-move (c .before .before .before .before .before .before .before .before .before .args .settings) (c .before .before .before .before .before .before .before .before .before .args .keys .now) (c .before .before .before .before .before .before .before .before .before .args .number) (c .before .before .before .before .before .own .result) Store (c .before .before .before .before .before .before .before .before .before .args .start) (c .before .before .before .before .before .before .before .before .before .args .count) (c .before .before .before .before .before .before .before .before .before .args .storage .now) (c .before .before .before .before .before .before .before .before .before .args .bytes .now) (sym (c .before .before .before .verdict .ensures) ∙ c .before .enum-told .given .1)
+store-bytes-requires c κs = bytes-may-move _ _ _ _ _ _ _ _ _ (sym (c .before .before .before .verdict .ensures) ∙ c .before .enum-told .given .1)
 
 second-requires : tie.Need-second-requires
 second-requires c κs = search needs
 
 record-requires : tie.Need-record-requires
-record-requires c κs = rw (c .second .ensures) (keys-may-change (c .before .before .before .before .before .before .before .before .before .before .before .before .before .before .args .settings) (c .before .before .before .before .before .before .before .before .before .before .before .before .before .before .args .keys .now) (c .before .before .before .before .before .before .before .before .before .before .before .before .before .before .args .number) (c .before .before .before .before .before .before .before .before .before .before .own .result) Store (c .before .before .before .before .before .before .before .before .before .before .before .before .before .before .args .start) (c .before .before .before .before .before .before .before .before .before .before .before .before .before .before .args .count) (c .before .before .before .before .before .before .before .before .before .before .before .before .before .before .args .storage .now) (c .before .before .before .before .before .before .before .before .before .before .before .before .before .before .args .bytes .now) (sym (c .before .before .before .before .before .before .before .before .verdict .ensures) ∙ c .before .before .before .before .before .before .enum-told .given .1))
+record-requires c κs = rw (c .second .ensures) (keys-may-change _ _ _ _ _ _ _ _ _ (sym (c .before .before .before .before .before .before .before .before .verdict .ensures) ∙ c .before .before .before .before .before .before .enum-told .given .1))
 
 enum-known-found : tie.Need-enum-known-found
 enum-known-found c = search needs
@@ -36,13 +36,13 @@ same-length-2 c = search needs
 
 returns : tie.Need-returns
 unfolding bufferLeft
-returns c = rw (c .before .before .«record» .ensures, c .before .before .before .second .ensures, c .before .before .before .before .before .before .before .store-bytes .ensures) (completed-access (c .before .before .before .before .before .before .before .before .before .before .before .before .before .before .before .before .before .args .settings) (c .before .before .before .before .before .before .before .before .before .before .before .before .before .before .before .before .before .args .keys .now) (c .before .before .before .before .before .before .before .before .before .before .before .before .before .before .before .before .before .args .number) (c .before .before .before .before .before .before .before .before .before .before .before .before .before .own .result) Store (c .before .before .before .before .before .before .before .before .before .before .before .before .before .before .before .before .before .args .start) (c .before .before .before .before .before .before .before .before .before .before .before .before .before .before .before .before .before .args .count) (c .before .before .before .before .before .before .before .before .before .before .before .before .before .before .before .before .before .args .storage .now) (c .before .before .before .before .before .before .before .before .before .before .before .before .before .before .before .before .before .args .bytes .now) (sym (c .before .before .before .before .before .before .before .before .before .before .before .verdict .ensures) ∙ c .before .before .before .before .before .before .before .before .before .enum-told .given .1) _ (c .before .before .before .before .before .before .before .before .before .before .before .before .before .own .ensures))
+returns c = rw (c .before .before .«record» .ensures, c .before .before .before .second .ensures, c .before .before .before .before .before .before .before .store-bytes .ensures) (completed-access _ _ _ _ _ _ _ _ _ _ (c .before .before .before .before .before .before .before .before .before .before .before .before .before .own .ensures) (sym (c .before .before .before .before .before .before .before .before .before .before .before .verdict .ensures) ∙ c .before .before .before .before .before .before .before .before .before .enum-told .given .1))
 
 same-length-3 : tie.Need-same-length-3
 same-length-3 c = search needs
 
 returns-2 : tie.Need-returns-2
-returns-2 c = refused-request (c .before .before .before .before .before .before .before .before .before .args .settings) _ _ _ _ (c .before .before .before .before .before .own .result) _ _ _ _ (c .before .before .before .before .before .own .ensures) (sym (c .before .before .before .verdict .ensures) ∙ c .before .found .given .1)
+returns-2 c = refused-request _ _ _ _ _ _ _ (c .before .before .before .before .before .own .ensures) (c .before .before .before .verdict .ensures) (c .before .found .given .1)
 
 pub store-spec : {M : Type 1} → statement M
 store-spec =

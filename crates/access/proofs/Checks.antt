@@ -1,12 +1,11 @@
--- The table of an access by two tests is the table by byte: of the bytes before the second unit and of those from there on, the first
--- decides. Assumes nothing.
+-- The table of an access by unit is the table by byte: of the bytes in one unit the first decides. Assumes nothing.
 use Prim.Native.Nat.{ℕ, _-_, _%_, _<_, _≤_}
 use mathlib.Core.Path.{_≡_, refl}
 use mathlib.Core.Bool.{Bool, true, false, cond, not, _&&_}
 use mathlib.Core.List.{List}
 use native.Mathlib.Omega.{arith}
-use native.Mathlib.Decide.{decLt}
-use borrow.Author.Tests.{ltb-false, leb-false, le-ltb, lt-leb}
+use native.Mathlib.Decide.{decLt, decLe}
+use borrow.Author.Tests.{le-leb, ltb-false, leb-false, le-ltb, lt-leb}
 use lib.Dec.{leb, ltb}
 use lib.ListN.{length, getD}
 use Rattle.machine.specs.declared.Settings.{Settings}
@@ -26,8 +25,8 @@ use Rattle.machine.specs.Table.{operandInvalid, absoluteOutside, addressing, ab
 use Rattle.machine.proofs.Verdicts.{both, neither, first-assoc, bytes-none, bytes-stop}
 use Rattle.machine.proofs.Plans.{configured, operands-passed}
 use Rattle.machine.proofs.AbsoluteAddress.{absolute-inside}
-use Rattle.access.specs.Runs.{second, twoTests, linesAt}
-use Rattle.access.proofs.Runs.{Run, second-below, before-second, from-second, real-below, real-step, unit-same}
+use Rattle.access.specs.Runs.{left, twoTests, linesByUnit}
+use Rattle.access.proofs.Runs.{Run, run-first, run-second, real-below, real-step, unit-same}
 
 -- where the test fails at byte 0 it fails before byte k, and where it fails at byte k too it fails everywhere
 two-tests : (r : Reason) (test : ℕ → Bool) (n k : ℕ) → k < n → ((i : ℕ) → i < k → test 0 ≡ false → test i ≡ false)
@@ -65,24 +64,67 @@ module _ (s : Settings) (start : ℕ) where
       let t = neither (lowProtected kind p (add24 start f)) _ q in
       rw (low-later kind p (add24 start f) (add24 start i) (omega (arith, real-step s start f i r)) (t .0), unit-same s start f i r p) (t .1)
 
-  -- a test that does not begin to hold inside a run is decided by two bytes
-  by-two : (count : ℕ) → 0 < count → count ≤ 256 → (r : Reason) (test : ℕ → Bool) → ((f i : ℕ) → Run s start f i → test f ≡ false → test i ≡ false)
-      → firstByte r test count ≡ twoTests r (test 0) (second s start count) (test (second s start count))
-  by-two count some short r test later =
-      two-tests r test count (second s start count) (second-below s start count some short)
-      (λ i h. later 0 i (before-second s start count some short i h))
-      (λ i h l. later (second s start count) i (from-second s start count some short i h l))
+  -- a test that does not begin to hold inside a run is decided by byte 0 in one unit, and by two bytes in two
+  by-one : (count : ℕ) → 0 < count → count ≤ left s start → (r : Reason) (test : ℕ → Bool) → ((f i : ℕ) → Run s start f i → test f ≡ false → test i ≡ false)
+      → firstByte r test count ≡ line r (test 0)
+  unfolding line
+  by-one count some whole r test later = go (test 0) refl
+    where
+      go : (b : Bool) → test 0 ≡ b → firstByte r test count ≡ cond b (Stop r 0) Clear
+      go true e = bytes-stop r test 0 e (λ i h. absurd (omega arith)) count some
+      go false e = bytes-none r test count (λ i h. later 0 i (run-first s start i (omega arith)) e)
 
--- lines 64, 65 and 66, and then lines 5, 67 and 4 at two bytes
+  by-two : (count : ℕ) → left s start < count → count ≤ 256 → (r : Reason) (test : ℕ → Bool) → ((f i : ℕ) → Run s start f i → test f ≡ false → test i ≡ false)
+      → firstByte r test count ≡ twoTests r (test 0) (left s start) (test (left s start))
+  by-two count more short r test later =
+      two-tests r test count (left s start) more
+      (λ i h. later 0 i (run-first s start i h))
+      (λ i h l. later (left s start) i (run-second s start i h (omega arith)))
+
+-- lines 64, 65 and 66, and then lines 5, 67 and 4 by unit
 abbrev byUnit : Settings → ℕ → List ℕ → ℕ → Processor → AccessKind → ℕ → ℕ → ℕ → Verdict
 byUnit s m keys n p kind start count b =
     firstOf (firstOf (line Configuration (not (lengthsValid s m (length keys)))) (line Record (not (ltb n 2 && recordValid m p))))
     (firstOf (line Operand (operandInvalid (Access kind start count) b))
-    (linesAt s m keys p kind start (second s start count)))
+    (linesByUnit s m keys p kind start count))
+
+-- lines 5, 67 and 4 by unit are the lines by byte, where lines 64 to 66 pass
+module _ (s : Settings) (m keyLength : ℕ) (keys : List ℕ) (p : Processor) (kind : AccessKind) (start count : ℕ)
+    (lengths : lengthsValid s m keyLength ≡ true) (own : recordValid m p ≡ true) (some : 0 < count) (short : count ≤ 256) where
+  inside : (f i : ℕ) → Run s start f i → leb m (add24 start f) ≡ false → leb m (add24 start i) ≡ false
+  inside = inside-later s start m (configured s m keyLength p lengths own .whole)
+
+  absolute : (f i : ℕ) → Run s start f i → absoluteOutside m p (add24 start f) ≡ false → absoluteOutside m p (add24 start i) ≡ false
+  absolute f i r q = absolute-inside s m keyLength p lengths own (add24 start i)
+
+  lines-by-unit : linesByUnit s m keys p kind start count
+      ≡ firstOf (addressing m (Access kind start count))
+      (firstOf (absoluteAddressing m p (Access kind start count)) (protection s keys p (Access kind start count)))
+  unfolding addressing absoluteAddressing protection
+  lines-by-unit = go (decLe count (left s start))
+    where
+      go : Dec (count ≤ left s start) → linesByUnit s m keys p kind start count
+          ≡ firstOf (addressing m (Access kind start count))
+          (firstOf (absoluteAddressing m p (Access kind start count)) (protection s keys p (Access kind start count)))
+      go (yes h) =
+          rw (
+            le-leb count (left s start) h,
+            by-one s start count some h Addressing (λ i. leb m (add24 start i)) inside,
+            by-one s start count some h AbsoluteAddress (λ i. absoluteOutside m p (add24 start i)) absolute,
+            by-one s start count some h Protection (λ i. forbidden kind p (add24 start i) (getD keys (unitOf s (byteAt p start i)) 0)) (permitted-later s start p keys kind),
+          )
+      go (no h) =
+          let more : left s start < count = omega arith in
+          rw (
+            lt-leb count (left s start) more,
+            by-two s start count more short Addressing (λ i. leb m (add24 start i)) inside,
+            by-two s start count more short AbsoluteAddress (λ i. absoluteOutside m p (add24 start i)) absolute,
+            by-two s start count more short Protection (λ i. forbidden kind p (add24 start i) (getD keys (unitOf s (byteAt p start i)) 0)) (permitted-later s start p keys kind),
+          )
 
 pub by-unit : (s : Settings) (m : ℕ) (keys : List ℕ) (n : ℕ) (p : Processor) (kind : AccessKind) (start count b : ℕ)
     → byUnit s m keys n p kind start count b ≡ verdict s m keys n p (Access kind start count) b
-unfolding line firstOf firstLine plan verdict addressing absoluteAddressing protection
+unfolding line firstOf firstLine plan verdict
 by-unit s m keys n p kind start count b =
     go (lengthsValid s m (length keys)) refl (ltb n 2 && recordValid m p) refl (operandInvalid (Access kind start count) b) refl
   where
@@ -92,15 +134,7 @@ by-unit s m keys n p kind start count b =
     go true ex true ey false ez =
         let valid = both (ltb n 2) _ ey .1 in
         let (some, short, buffered) = operands-passed kind start count b ez in
-        rw (
-          ex,
-          ey,
-          ez,
-          by-two s start count some short Addressing (λ i. leb m (add24 start i)) (inside-later s start m (configured s m (length keys) p ex valid .whole)),
-          by-two s start count some short AbsoluteAddress (λ i. absoluteOutside m p (add24 start i)) (λ f i r q. absolute-inside s m (length keys) p ex valid (add24 start i)),
-          by-two s start count some short Protection (λ i. forbidden kind p (add24 start i) (getD keys (unitOf s (byteAt p start i)) 0)) (permitted-later s start p keys kind),
-        )
-        (simp first-assoc)
+        rw (ex, ey, ez, lines-by-unit s m (length keys) keys p kind start count ex valid some short) (simp first-assoc)
     go true ex true ey true ez = rw (ex, ey, ez)
     go true ex false ey z ez = rw (ex, ey)
     go false ex y ey z ez = rw ex

@@ -22,9 +22,10 @@ use Rattle.machine.specs.Step.{outcome, storageLeft, bufferLeft, keysRecorded, 
 use Rattle.machine.proofs.Written.{written-after, written-once}
 use Rattle.machine.proofs.Plans.{clear-plan, Passed, access-passed, access-keyed}
 use Rattle.machine.proofs.Requests.{completed-request}
-use Rattle.access.specs.Runs.{left, second, bothRecorded}
+use Rattle.access.specs.Runs.{left}
+use Rattle.access.specs.Recordable.{Recordable}
 use Rattle.access.proofs.Moves.{one-run, two-runs}
-use Rattle.access.proofs.Runs.{Run, left-positive, run-first, run-second, real-step, byte-step, unit-same, second-below, before-second, from-second}
+use Rattle.access.proofs.Runs.{Run, left-positive, run-first, run-second, real-step, byte-step, unit-same}
 
 -- n bytes from byte f on fit the m bytes of storage and the b bytes of a buffer, and do not wrap
 abbrev Fits : Processor → ℕ → ℕ → ℕ → ℕ → ℕ → Type 0
@@ -102,41 +103,54 @@ module _ (f : ℕ → ℕ) (keys : List ℕ) (unit : ℕ → ℕ) where
       ∙ written-after keys unit value k (suc (n - k - 1))
       ∙ ap (written keys unit value) (omega arith)
 
--- what the routines ask of their parts and give, from a clear verdict, p being the record of processor n; m and b are the lengths of storage
--- and buffer
+-- the keys of an access in one unit and of one in two
+module _ (s : Settings) (keyLength : ℕ) (p : Processor) (start count : ℕ) (h : Recordable s keyLength p start count) (kind : AccessKind) (keys : List ℕ) where
+  abbrev unit : ℕ → ℕ
+  unit i = unitOf s (byteAt p start i)
+
+  abbrev mark : ℕ → ℕ
+  mark i = recorded kind (getD keys (unit i) 0)
+
+  same-mark : (f i : ℕ) → Run s start f i → (unit i ≡ unit f) × (mark i ≡ mark f)
+  same-mark f i r = let e = unit-same s start f i r p in (e, ap (λ u. recorded kind (getD keys u 0)) e)
+
+  pub one-recorded : count ≤ left s start → set keys (unit 0) (mark 0) ≡ keysRecorded s kind keys p start count
+  unfolding keysRecorded
+  one-recorded l =
+      sym (written-once keys unit mark (unit 0) (mark 0) (count - 1) (λ i k. same-mark 0 i (run-first s start i (omega arith))))
+      ∙ ap (written keys unit mark) (omega (arith, h .some))
+
+  pub two-recorded : left s start < count
+      → set (set keys (unit 0) (mark 0)) (unit (left s start)) (mark (left s start)) ≡ keysRecorded s kind keys p start count
+  unfolding keysRecorded
+  two-recorded l =
+      both-marked (recorded kind) keys unit (left s start) count l
+      (λ i k. same-mark 0 i (run-first s start i k) .0)
+      (λ i k m. same-mark (left s start) i (run-second s start i k (omega (arith, h .short))) .0)
+
+-- what the routines ask of their parts, from a clear verdict, p being the record of processor n; m and b are the lengths of storage and
+-- buffer
 module _ (s : Settings) (m : ℕ) (keys : List ℕ) (n : ℕ) (p : Processor) (kind : AccessKind) (start count b : ℕ)
     (clear : verdict s m keys n p (Access kind start count) b ≡ Clear) where
-  abbrev k : ℕ
-  k = second s start count
-
   planned : plan s m (length keys) n p (Access kind start count) b ≡ Clear
   planned = clear-plan s m keys n p (Access kind start count) b clear
 
   pub bytes-may-move : Passed m p start count b
   bytes-may-move = access-passed s m (length keys) n p kind start count b planned
 
-  k-inside : k < count
-  k-inside = second-below s start count (bytes-may-move .some) (bytes-may-move .short)
-
-  pub keys-may-change : (unitOf s (byteAt p start 0) < length keys) × (unitOf s (byteAt p start k) < length keys)
+  pub keys-may-change : Recordable s (length keys) p start count
   keys-may-change =
-      let inside = access-keyed s m (length keys) n p kind start count b planned in
-      (inside 0 (bytes-may-move .some), inside k k-inside)
+      record {
+        some = bytes-may-move .some;
+        short = bytes-may-move .short;
+        keyed = access-keyed s m (length keys) n p kind start count b planned;
+      }
 
-  keys-left : bothRecorded kind keys (unitOf s (byteAt p start 0)) (unitOf s (byteAt p start k)) ≡ keysRecorded s kind keys p start count
-  unfolding keysRecorded
-  keys-left =
-      both-marked (recorded kind) keys (λ i. unitOf s (byteAt p start i)) k count k-inside
-      (λ i h. unit-same s start 0 i (before-second s start count (bytes-may-move .some) (bytes-may-move .short) i h) p)
-      (λ i h l. unit-same s start k i (from-second s start count (bytes-may-move .some) (bytes-may-move .short) i h l) p)
-
+-- and that it gives what the step gives
 pub completed-access : (s : Settings) (storage keys : List ℕ) (ps : List Processor) (n : ℕ) (p : Processor) (kind : AccessKind) (start count : ℕ) (buffer : List ℕ)
-    → p ≡ own ps n → verdict s (length storage) keys n p (Access kind start count) (length buffer) ≡ Clear
-    → outcome (Completed 0) (storageLeft kind storage p start count buffer)
-    (bothRecorded kind keys (unitOf s (byteAt p start 0)) (unitOf s (byteAt p start (second s start count)))) ps
-    (bufferLeft kind storage p start count buffer)
+    → own ps n ≡ p → verdict s (length storage) keys n p (Access kind start count) (length buffer) ≡ Clear
+    → outcome (Completed 0) (storageLeft kind storage p start count buffer) (keysRecorded s kind keys p start count) ps (bufferLeft kind storage p start count buffer)
     ≡ step s storage keys ps n (Access kind start count) buffer
 unfolding completed
 completed-access s storage keys ps n p kind start count buffer e clear =
-    rw (keys-left s (length storage) keys n p kind start count (length buffer) clear)
-    (completed-request s storage keys ps n (Access kind start count) buffer e refl clear)
+    completed-request s storage keys ps n (Access kind start count) buffer (sym e) refl clear

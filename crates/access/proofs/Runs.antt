@@ -12,7 +12,7 @@ use Rattle.machine.specs.Numbers.{unitSize, unitOf, add24}
 use Rattle.machine.specs.Prefixing.{blockNumber, byteAt}
 use Rattle.machine.proofs.Prefixing.{prefixing-keeps-offset, prefixing-maps-blocks}
 use Rattle.machine.proofs.Units.{unit-holds-access, unit-from, block-of-unit, bytes-in-unit}
-use Rattle.access.specs.Runs.{left, second}
+use Rattle.access.specs.Runs.{left}
 
 abbrev pub Run : Settings → ℕ → ℕ → ℕ → Type 0
 Run s start f i = (f ≤ i) × (unitOf s (start + i) ≡ unitOf s (start + f))
@@ -59,18 +59,3 @@ module _ (s : Settings) (start : ℕ) where
 
   pub run-second : (i : ℕ) → left s start ≤ i → i < 256 → Run s start (left s start) i
   run-second i h l = (h, second-unit i h l ∙ sym (second-unit (left s start) (le-refl (left s start)) (omega arith)))
-
-  -- the two runs of an access
-  module _ (count : ℕ) (some : 0 < count) (short : count ≤ 256) where
-    pub second-below : second s start count < count
-    second-below = omega arith
-
-    pub before-second : (i : ℕ) → i < second s start count → Run s start 0 i
-    before-second i h = run-first i (omega arith)
-
-    pub from-second : (i : ℕ) → second s start count ≤ i → i < count → Run s start (second s start count) i
-    from-second i h l = go (decLe (left s start) (count - 1))
-      where
-        go : Dec (left s start ≤ count - 1) → Run s start (second s start count) i
-        go (yes q) = rw (min-eq-left q) (run-second i (omega arith) (omega arith))
-        go (no q) = (h, ap (λ j. unitOf s (start + j)) (omega arith))

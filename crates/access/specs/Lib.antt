@@ -1,2 +1,3 @@
 -- What the helpers of an access mean.
 pub mod Runs
+pub mod Recordable

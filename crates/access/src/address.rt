@@ -1,4 +1,4 @@
-// The bytes of an access: their absolute addresses, their units, and where the second unit begins.
+// The bytes of an access: their absolute addresses, their units, and where the first unit ends.
 use machine::Processor;
 use machine::Settings;
 use machine::numbers::unit_of;
@@ -7,7 +7,7 @@ use prefixing::add24;
 ghost use mathlib.Core.Path.{_≡_};
 ghost use Rattle.machine.specs.Numbers.{unitOf};
 ghost use Rattle.machine.specs.Prefixing.{byteAt};
-ghost use Rattle.access.specs.Runs.{left as leftOf, second as secondOf};
+ghost use Rattle.access.specs.Runs.{left as leftOf};
 
 // The absolute address of byte i.
 pub(crate) fn byte_at(p: Processor, start: u32, i: u32) -> usize
@@ -32,18 +32,4 @@ pub(crate) fn left(settings: Settings, start: u32) -> u32
     } else {
         2048 - start % 2048
     }
-}
-
-// The first byte in the second unit; where there is no second unit, the last byte.
-pub(crate) fn second(settings: Settings, start: u32, count: u32) -> u32
-    ensures { λ r. ⌜ r ≡ secondOf settings start count ⌝ }
-{
-    let first = left(settings, start);
-    if first < count {
-        return first;
-    }
-    if count == 0 {
-        return 0;
-    }
-    count - 1
 }

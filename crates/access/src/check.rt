@@ -1,6 +1,6 @@
-// The table of answers for an access. An access touches at most two units, and each line is tested at two bytes: byte 0, and the first
-// byte in the second unit.
-use crate::address::second;
+// The table of answers for an access. An access touches at most two units, and each line is tested at byte 0 and, where there is a second
+// unit, at the first byte in it.
+use crate::address::left;
 use crate::address::unit_at;
 use machine::AccessKind;
 use machine::Processor;
@@ -20,7 +20,7 @@ ghost use Rattle.machine.specs.Numbers.{unitOf};
 ghost use Rattle.machine.specs.Answers.{line};
 ghost use Rattle.machine.specs.Prefixing.{byteAt};
 ghost use Rattle.machine.specs.Table.{operandInvalid, absoluteOutside, verdict as verdictOf};
-ghost use Rattle.access.specs.Runs.{twoTests, linesAt};
+ghost use Rattle.access.specs.Runs.{twoTests, linesOfOne, linesOfTwo, linesByUnit};
 
 fn two_tests(reason: Reason, here: bool, k: u32, there: bool) -> Verdict
     ensures { λ r. ⌜ r ≡ twoTests reason here k there ⌝ }
@@ -59,8 +59,32 @@ fn key_at(settings: Settings, keys: &[u8], p: Processor, start: u32, i: u32) -> 
     if unit < keys.len() { keys[unit] } else { 0 }
 }
 
-// Line 5 of the table at two bytes, then line 67, then line 4.
-fn by_unit(
+// Lines 5, 67 and 4 of an access in one unit.
+fn one_unit(
+    settings: Settings,
+    storage_length: usize,
+    keys: &[u8],
+    p: Processor,
+    kind: AccessKind,
+    start: u32,
+) -> Verdict
+    ensures { λ r. ⌜ r ≡ linesOfOne settings «storage_length» (now (keys .entry)) p kind start ⌝ }
+{
+    let real = add24(start, 0);
+    let outside = refuse(Reason::Addressing, storage_length <= real as usize);
+    let beyond = refuse(
+        Reason::AbsoluteAddress,
+        absolute_outside(storage_length, p, real),
+    );
+    let protected = refuse(
+        Reason::Protection,
+        forbidden(kind, p, real, key_at(settings, keys, p, start, 0)),
+    );
+    first_of(outside, first_of(beyond, protected))
+}
+
+// Lines 5, 67 and 4 of an access in two units, byte k being the first in the second unit.
+fn two_units(
     settings: Settings,
     storage_length: usize,
     keys: &[u8],
@@ -69,7 +93,7 @@ fn by_unit(
     start: u32,
     k: u32,
 ) -> Verdict
-    ensures { λ r. ⌜ r ≡ linesAt settings «storage_length» (now (keys .entry)) p kind start k ⌝ }
+    ensures { λ r. ⌜ r ≡ linesOfTwo settings «storage_length» (now (keys .entry)) p kind start k ⌝ }
 {
     let here = add24(start, 0);
     let there = add24(start, k);
@@ -94,6 +118,26 @@ fn by_unit(
     first_of(outside, first_of(beyond, protected))
 }
 
+// Lines 5, 67 and 4.
+fn by_unit(
+    settings: Settings,
+    storage_length: usize,
+    keys: &[u8],
+    p: Processor,
+    kind: AccessKind,
+    start: u32,
+    count: u32,
+) -> Verdict
+    ensures { λ r. ⌜ r ≡ linesByUnit settings «storage_length» (now (keys .entry)) p kind start count ⌝ }
+{
+    let first = left(settings, start);
+    if count <= first {
+        one_unit(settings, storage_length, keys, p, kind, start)
+    } else {
+        two_units(settings, storage_length, keys, p, kind, start, first)
+    }
+}
+
 // The verdict of the table on an access.
 pub(crate) fn verdict(
     settings: Settings,
@@ -108,9 +152,8 @@ pub(crate) fn verdict(
 ) -> Verdict
     ensures { λ r. ⌜ r ≡ verdictOf settings «storage_length» (now (keys .entry)) number p (Request.Access kind start count) «buffer_length» ⌝ }
 {
-    let k = second(settings, start, count);
     let machine = valid(settings, storage_length, keys.len(), number, p);
     let operands = operand(kind, start, count, buffer_length);
-    let bytes = by_unit(settings, storage_length, keys, p, kind, start, k);
+    let bytes = by_unit(settings, storage_length, keys, p, kind, start, count);
     first_of(machine, first_of(operands, bytes))
 }

@@ -3,7 +3,6 @@ mod address;
 mod check;
 mod transfer;
 
-use crate::address::second;
 use crate::check::verdict;
 use crate::transfer::fetch_bytes;
 use crate::transfer::record;
@@ -14,24 +13,25 @@ use machine::Processor;
 use machine::Request;
 use machine::Settings;
 use machine::Verdict;
-use machine::numbers::own;
 ghost use mathlib.Core.Path.{_≡_};
+ghost use mathlib.Core.List.{List};
+ghost use Rattle.machine.specs.Numbers.{own as recordOf};
 ghost use Rattle.machine.specs.Step.{outcome, step};
 
-// A store of the first `count` bytes of `bytes` at a real address, for the processor with this number.
+// A store of the first `count` bytes of `bytes` at a real address, for the processor with this number and the record p. Whatever the other
+// records are, what is left is what the step leaves.
 pub fn store(
     settings: Settings,
     storage: &mut [u8],
     keys: &mut [u8],
-    processors: [Processor; 2],
+    p: Processor,
     number: usize,
     start: u32,
     count: u32,
     bytes: &[u8],
 ) -> Answer
-    ensures { λ r. ⌜ outcome r (now (storage .exit)) (now (keys .exit)) processors (now (bytes .entry)) ≡ step settings (now (storage .entry)) (now (keys .entry)) processors number (Request.Access AccessKind.Store start count) (now (bytes .entry)) ⌝ }
+    ensures { λ r. ⌜ ((ps : List Processor) → recordOf ps number ≡ p → outcome r (now (storage .exit)) (now (keys .exit)) ps (now (bytes .entry)) ≡ step settings (now (storage .entry)) (now (keys .entry)) ps number (Request.Access AccessKind.Store start count) (now (bytes .entry))) ⌝ }
 {
-    let p = own(processors, number);
     let kind = AccessKind::Store;
     let found = verdict(
         settings,
@@ -47,34 +47,26 @@ pub fn store(
     match found {
         Verdict::Clear => {
             store_bytes(settings, storage, p, start, count, bytes);
-            record(
-                settings,
-                keys,
-                p,
-                kind,
-                start,
-                second(settings, start, count),
-            );
+            record(settings, keys, p, kind, start, count);
             Answer::Completed { word: 0 }
         }
         Verdict::Stop { reason, place } => Answer::Refused { reason, place },
     }
 }
 
-// A fetch of `count` bytes from a real address into the first bytes of `buffer`, for the processor with this number.
+// A fetch of `count` bytes from a real address into the first bytes of `buffer`, for the processor with this number and the record p.
 pub fn fetch(
     settings: Settings,
     storage: &[u8],
     keys: &mut [u8],
-    processors: [Processor; 2],
+    p: Processor,
     number: usize,
     start: u32,
     count: u32,
     buffer: &mut [u8],
 ) -> Answer
-    ensures { λ r. ⌜ outcome r (now (storage .entry)) (now (keys .exit)) processors (now (buffer .exit)) ≡ step settings (now (storage .entry)) (now (keys .entry)) processors number (Request.Access AccessKind.Fetch start count) (now (buffer .entry)) ⌝ }
+    ensures { λ r. ⌜ ((ps : List Processor) → recordOf ps number ≡ p → outcome r (now (storage .entry)) (now (keys .exit)) ps (now (buffer .exit)) ≡ step settings (now (storage .entry)) (now (keys .entry)) ps number (Request.Access AccessKind.Fetch start count) (now (buffer .entry))) ⌝ }
 {
-    let p = own(processors, number);
     let kind = AccessKind::Fetch;
     let found = verdict(
         settings,
@@ -90,14 +82,7 @@ pub fn fetch(
     match found {
         Verdict::Clear => {
             fetch_bytes(settings, storage, p, start, count, buffer);
-            record(
-                settings,
-                keys,
-                p,
-                kind,
-                start,
-                second(settings, start, count),
-            );
+            record(settings, keys, p, kind, start, count);
             Answer::Completed { word: 0 }
         }
         Verdict::Stop { reason, place } => Answer::Refused { reason, place },

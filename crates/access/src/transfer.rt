@@ -12,8 +12,8 @@ ghost use mathlib.Core.Path.{_≡_};
 ghost use lib.ListN.{getD, length};
 ghost use Rattle.machine.specs.Numbers.{unitOf, written};
 ghost use Rattle.machine.specs.Prefixing.{byteAt};
-ghost use Rattle.machine.specs.Step.{storageLeft, bufferLeft};
-ghost use Rattle.access.specs.Runs.{bothRecorded};
+ghost use Rattle.machine.specs.Step.{storageLeft, bufferLeft, keysRecorded};
+ghost use Rattle.access.specs.Recordable.{Recordable};
 ghost use Rattle.machine.proofs.Plans.{Passed};
 
 // A run of a store: n bytes from `from` on go to the absolute address `base` and those after it. The run has the real addresses from
@@ -49,21 +49,26 @@ fn fetch_run(storage: &[u8], base: usize, real: u32, buffer: &mut [u8], from: us
     }
 }
 
-// The keys of the units of bytes 0 and k, which are all that the access touches.
+// The key of each unit that the access touches, one or two.
 pub(crate) fn record(
     settings: Settings,
     keys: &mut [u8],
     p: Processor,
     kind: AccessKind,
     start: u32,
-    k: u32,
+    count: u32,
 )
-    requires { ⌜ (unitOf settings (byteAt p start 0) < length (now keys)) × (unitOf settings (byteAt p start k) < length (now keys)) ⌝ }
-    ensures { λ _. ⌜ now (keys .exit) ≡ bothRecorded kind (now (keys .entry)) (unitOf settings (byteAt p start 0)) (unitOf settings (byteAt p start k)) ⌝ }
+    requires { ⌜ Recordable settings (length (now keys)) p start count ⌝ }
+    ensures { λ _. ⌜ now (keys .exit) ≡ keysRecorded settings kind (now (keys .entry)) p start count ⌝ }
 {
     let first = unit_at(settings, p, start, 0);
-    let last = unit_at(settings, p, start, k);
     let here = recorded(kind, keys[first]);
+    let boundary = left(settings, start);
+    if count <= boundary {
+        keys[first] = here;
+        return;
+    }
+    let last = unit_at(settings, p, start, boundary);
     let there = recorded(kind, keys[last]);
     keys[first] = here;
     keys[last] = there;

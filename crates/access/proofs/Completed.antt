@@ -4,7 +4,6 @@ use Prim.Native.Nat.{ℕ, zero, suc, _+_, _-_, _<_, _≤_}
 use mathlib.Core.Path.{_≡_, refl, sym, ap, _∙_}
 use mathlib.Core.List.{List}
 use native.Mathlib.Omega.{arith}
-use native.Mathlib.Nat.{le-refl}
 use lib.ListN.{length, getD, set}
 use lib.Seq.{set-set}
 use Rattle.machine.specs.declared.Settings.{Settings}
@@ -30,25 +29,26 @@ use Rattle.access.proofs.Runs.{Run, left-positive, run-first, run-secon
 abbrev Fits : Processor → ℕ → ℕ → ℕ → ℕ → ℕ → Type 0
 Fits p start f n m b = (byteAt p start f + n ≤ m) × ((f + n ≤ b) × ((n ≤ 256) × (add24 start f + n ≤ 16777216)))
 
--- the runs that an access is moved in: one that ends in the first unit, or the first unit's part and the rest
-module _ (s : Settings) (m : ℕ) (p : Processor) (start count b : ℕ) (h : Passed m p start count b) where
+-- the runs that an access is moved in: one that ends in the first unit, or the first unit's part and the rest. The first unit holds `first` bytes
+module _ (s : Settings) (m : ℕ) (p : Processor) (start count b first : ℕ) (h : Passed m p start count b) (ends : first ≡ left s start) where
   run-fits : (f n : ℕ) → 0 < n → f + n ≤ count → Run s start f (f + n - 1) → Fits p start f n m b
-  run-fits f n pos l r =
-      (omega (arith, h .byte-inside (f + n - 1) (omega arith), byte-step s start f (f + n - 1) r p), (omega (arith, h), (omega (arith, h), omega (arith, real-step s start f (f + n - 1) r))))
+  run-fits f n pos l r = (
+    omega (arith, h .byte-inside (f + n - 1) (omega arith), byte-step s start f (f + n - 1) r p),
+    (omega (arith, h), (omega (arith, h), omega (arith, real-step s start f (f + n - 1) r))),
+  )
 
-  first-fits : (n : ℕ) → 0 < n → n ≤ count → n ≤ left s start → Fits p start 0 n m b
-  first-fits n pos l le = run-fits 0 n pos (omega arith) (run-first s start (0 + n - 1) (omega arith))
+  pub whole-fits : count ≤ first → Fits p start 0 count m b
+  whole-fits l = run-fits 0 count (h .some) (omega arith) (run-first s start (0 + count - 1) (omega (arith, h .some)))
 
-  pub whole-fits : count ≤ left s start → Fits p start 0 count m b
-  whole-fits = first-fits count (h .some) (le-refl count)
+  pub part-fits : first < count → Fits p start 0 first m b
+  part-fits l =
+      let some : 0 < first = omega (arith, left-positive s start) in
+      run-fits 0 first some (omega arith) (run-first s start (0 + first - 1) (omega arith))
 
-  pub part-fits : left s start < count → Fits p start 0 (left s start) m b
-  part-fits l = first-fits (left s start) (left-positive s start) (omega arith) (le-refl (left s start))
-
-  pub rest-fits : left s start < count → Fits p start (left s start) (count - left s start) m b
+  pub rest-fits : first < count → Fits p start first (count - first) m b
   rest-fits l =
-      run-fits (left s start) (count - left s start) (omega arith) (omega arith)
-      (run-second s start (left s start + (count - left s start) - 1) (omega arith) (omega (arith, h .short)))
+      run-fits first (count - first) (omega arith) (omega arith)
+      (run-second s start first (first + (count - first) - 1) ends (omega arith) (omega (arith, h .short)))
 
   -- in those runs a store and a fetch write what the rules say
   byte-agrees : (f j : ℕ) → Run s start f (f + j) → byteAt p start f + j ≡ byteAt p start (f + j)
@@ -61,25 +61,33 @@ module _ (s : Settings) (m : ℕ) (p : Processor) (start count b : ℕ) (h : Pas
     fetch-agrees : (f j : ℕ) → Run s start f (f + j) → (f + j ≡ f + j) × (getD ys (byteAt p start f + j) 0 ≡ getD ys (byteAt p start (f + j)) 0)
     fetch-agrees f j r = (refl, ap (λ a. getD ys a 0) (byte-agrees f j r))
 
-    pub store-one : count ≤ left s start → written xs (λ j. byteAt p start 0 + j) (λ j. getD ys (0 + j) 0) count ≡ storageLeft Store xs p start count ys
+    pub store-one : count ≤ first → written xs (λ j. byteAt p start 0 + j) (λ j. getD ys (0 + j) 0) count ≡ storageLeft Store xs p start count ys
     unfolding storageLeft
     store-one =
-        one-run s start count (h .short) (byteAt p start) (λ i. getD ys i 0) (λ f j. byteAt p start f + j) (λ f j. getD ys (f + j) 0) store-agrees xs count
+        one-run s start count first (h .short) ends (byteAt p start) (λ i. getD ys i 0) (λ f j. byteAt p start f + j) (λ f j. getD ys (f + j) 0)
+        store-agrees xs count
 
-    pub store-two : left s start < count → written (written xs (λ j. byteAt p start 0 + j) (λ j. getD ys (0 + j) 0) (left s start)) (λ j. byteAt p start (left s start) + j) (λ j. getD ys (left s start + j) 0) (count - left s start) ≡ storageLeft Store xs p start count ys
+    pub store-two : first < count
+        → written (written xs (λ j. byteAt p start 0 + j) (λ j. getD ys (0 + j) 0) first) (λ j. byteAt p start first + j) (λ j. getD ys (first + j) 0) (count - first)
+        ≡ storageLeft Store xs p start count ys
     unfolding storageLeft
     store-two =
-        two-runs s start count (h .short) (byteAt p start) (λ i. getD ys i 0) (λ f j. byteAt p start f + j) (λ f j. getD ys (f + j) 0) store-agrees xs
+        two-runs s start count first (h .short) ends (byteAt p start) (λ i. getD ys i 0) (λ f j. byteAt p start f + j) (λ f j. getD ys (f + j) 0)
+        store-agrees xs
 
-    pub fetch-one : count ≤ left s start → written xs (λ j. 0 + j) (λ j. getD ys (byteAt p start 0 + j) 0) count ≡ bufferLeft Fetch ys p start count xs
+    pub fetch-one : count ≤ first → written xs (λ j. 0 + j) (λ j. getD ys (byteAt p start 0 + j) 0) count ≡ bufferLeft Fetch ys p start count xs
     unfolding bufferLeft
     fetch-one =
-        one-run s start count (h .short) (λ i. i) (λ i. getD ys (byteAt p start i) 0) (λ f j. f + j) (λ f j. getD ys (byteAt p start f + j) 0) fetch-agrees xs count
+        one-run s start count first (h .short) ends (λ i. i) (λ i. getD ys (byteAt p start i) 0) (λ f j. f + j) (λ f j. getD ys (byteAt p start f + j) 0)
+        fetch-agrees xs count
 
-    pub fetch-two : left s start < count → written (written xs (λ j. 0 + j) (λ j. getD ys (byteAt p start 0 + j) 0) (left s start)) (λ j. left s start + j) (λ j. getD ys (byteAt p start (left s start) + j) 0) (count - left s start) ≡ bufferLeft Fetch ys p start count xs
+    pub fetch-two : first < count
+        → written (written xs (λ j. 0 + j) (λ j. getD ys (byteAt p start 0 + j) 0) first) (λ j. first + j) (λ j. getD ys (byteAt p start first + j) 0) (count - first)
+        ≡ bufferLeft Fetch ys p start count xs
     unfolding bufferLeft
     fetch-two =
-        two-runs s start count (h .short) (λ i. i) (λ i. getD ys (byteAt p start i) 0) (λ f j. f + j) (λ f j. getD ys (byteAt p start f + j) 0) fetch-agrees xs
+        two-runs s start count first (h .short) ends (λ i. i) (λ i. getD ys (byteAt p start i) 0) (λ f j. f + j) (λ f j. getD ys (byteAt p start f + j) 0)
+        fetch-agrees xs
 
 -- the units of an access are those of bytes 0 and k: what is written for each byte is written for the two
 module _ (f : ℕ → ℕ) (keys : List ℕ) (unit : ℕ → ℕ) where

@@ -26,17 +26,18 @@ pub run-place : (base real n j : ℕ) → real + n ≤ 16777216 → j < n → ba
 run-place base real n j h l = omega arith
 
 -- An access whose byte f + j is written by q f j and w f j as long as bytes f to f + j are a run: one run, or two, write it whole.
-module _ (s : Settings) (start count : ℕ) (short : count ≤ 256) (place value : ℕ → ℕ) (q w : ℕ → ℕ → ℕ)
+-- The first unit holds `first` bytes of it.
+module _ (s : Settings) (start count first : ℕ) (short : count ≤ 256) (ends : first ≡ left s start) (place value : ℕ → ℕ) (q w : ℕ → ℕ → ℕ)
     (agree : (f j : ℕ) → Run s start f (f + j) → (q f j ≡ place (f + j)) × (w f j ≡ value (f + j))) (xs : List ℕ) where
-  pub one-run : (n : ℕ) → n ≤ left s start → written xs (q 0) (w 0) n ≡ written xs place value n
+  pub one-run : (n : ℕ) → n ≤ first → written xs (q 0) (w 0) n ≡ written xs place value n
   one-run n h = written-same xs (q 0) place (w 0) value n (λ j l. rw (zero-add j) at (agree 0 j (rw (zero-add j) (run-first s start j (omega arith)))))
 
-  pub two-runs : left s start < count
-      → written (written xs (q 0) (w 0) (left s start)) (q (left s start)) (w (left s start)) (count - left s start) ≡ written xs place value count
+  pub two-runs : first < count → written (written xs (q 0) (w 0) first) (q first) (w first) (count - first) ≡ written xs place value count
   two-runs h =
       rw (
-        one-run (left s start) (omega arith),
-        written-same (written xs place value (left s start)) (q (left s start)) (λ j. place (left s start + j)) (w (left s start)) (λ j. value (left s start + j)) (count - left s start) (λ j l. agree (left s start) j (run-second s start (left s start + j) (omega arith) (omega arith))),
-        written-after xs place value (left s start) (count - left s start),
+        one-run first (omega arith),
+        written-same (written xs place value first) (q first) (λ j. place (first + j)) (w first) (λ j. value (first + j)) (count - first)
+            (λ j l. agree first j (run-second s start first (first + j) ends (omega arith) (omega arith))),
+        written-after xs place value first (count - first),
       )
       (ap (written xs place value) (omega arith))

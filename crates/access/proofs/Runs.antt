@@ -4,7 +4,7 @@
 use Prim.Native.Nat.{ℕ, _+_, _-_, _%_, _<_, _≤_}
 use mathlib.Core.Path.{_≡_, sym, ap, _∙_}
 use native.Mathlib.Omega.{arith}
-use native.Mathlib.Nat.{mod-lt, div-eq-of-lt, div-eq-of-lt-le, add-zero, le-refl, min-eq-left}
+use native.Mathlib.Nat.{mod-lt, div-eq-of-lt, div-eq-of-lt-le, add-zero, min-eq-left}
 use native.Mathlib.Decide.{decLe}
 use Rattle.machine.specs.declared.Settings.{Settings}
 use Rattle.machine.specs.declared.Processor.{Processor}
@@ -57,8 +57,8 @@ module _ (s : Settings) (start : ℕ) where
       unit-from s start i ∙ ap (λ q. unitOf s start + q)
       (div-eq-of-lt-le {k = 1} (unitSize s) (omega arith) (omega (arith, unit-holds-access s, mod-lt start {m = unitSize s} (omega (arith, unit-holds-access s)))))
 
-  pub run-second : (i : ℕ) → left s start ≤ i → i < 256 → Run s start (left s start) i
-  run-second i h l = (h, second-unit i h l ∙ sym (second-unit (left s start) (le-refl (left s start)) (omega arith)))
+  pub run-second : (f i : ℕ) → f ≡ left s start → f ≤ i → i < 256 → Run s start f i
+  run-second f i e h l = (h, second-unit i (omega arith) l ∙ sym (second-unit f (omega arith) (omega arith)))
 
   -- the two runs of an access
   module _ (count : ℕ) (some : 0 < count) (short : count ≤ 256) where
@@ -72,5 +72,5 @@ module _ (s : Settings) (start : ℕ) where
     from-second i h l = go (decLe (left s start) (count - 1))
       where
         go : Dec (left s start ≤ count - 1) → Run s start (second s start count) i
-        go (yes q) = rw (min-eq-left q) (run-second i (omega arith) (omega arith))
+        go (yes q) = run-second (second s start count) i (min-eq-left q) h (omega arith)
         go (no q) = (h, ap (λ j. unitOf s (start + j)) (omega arith))

@@ -23,7 +23,11 @@ second-requires : tie.Need-second-requires
 second-requires c κs = search needs
 
 record-requires : tie.Need-record-requires
-record-requires c κs = rw (c .second .ensures) (keys-may-change _ _ _ _ _ _ _ _ _ (sym (c .before .before .before .before .before .before .before .before .verdict .ensures) ∙ c .before .before .before .before .before .before .enum-told .given .1))
+record-requires c κs =
+    rw (c .second .ensures)
+    (keys-may-change _ _ _ _ _ _ _ _ _
+    (sym (c .before .before .before .before .before .before .before .before .verdict .ensures)
+    ∙ c .before .before .before .before .before .before .enum-told .given .1))
 
 enum-known-found : tie.Need-enum-known-found
 enum-known-found c = search needs
@@ -36,13 +40,26 @@ same-length-2 c = search needs
 
 returns : tie.Need-returns
 unfolding storageLeft
-returns c = rw (c .before .before .«record» .ensures, c .before .before .before .second .ensures, c .before .before .before .before .before .before .before .fetch-bytes .ensures) (completed-access _ _ _ _ _ _ _ _ _ _ (c .before .before .before .before .before .before .before .before .before .before .before .before .before .own .ensures) (sym (c .before .before .before .before .before .before .before .before .before .before .before .verdict .ensures) ∙ c .before .before .before .before .before .before .before .before .before .enum-told .given .1))
+returns c =
+    rw (
+      c .before .before .«record» .ensures,
+      c .before .before .before .second .ensures,
+      c .before .before .before .before .before .before .before .fetch-bytes .ensures,
+    )
+    (completed-access _ _ _ _ _ _ _ _ _ _
+    (c .before .before .before .before .before .before .before .before .before .before .before .before .before .own .ensures)
+    (sym (c .before .before .before .before .before .before .before .before .before .before .before .verdict .ensures)
+    ∙ c .before .before .before .before .before .before .before .before .before .enum-told .given .1))
 
 same-length-3 : tie.Need-same-length-3
 same-length-3 c = search needs
 
 returns-2 : tie.Need-returns-2
-returns-2 c = refused-request _ _ _ _ _ _ _ (c .before .before .before .before .before .own .ensures) (c .before .before .before .verdict .ensures) (c .before .found .given .1)
+returns-2 c =
+    refused-request _ _ _ _ _ _ _
+    (c .before .before .before .before .before .own .ensures)
+    (c .before .before .before .verdict .ensures)
+    (c .before .found .given .1)
 
 pub fetch-spec : {M : Type 1} → statement M
 fetch-spec =

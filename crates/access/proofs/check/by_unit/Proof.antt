@@ -49,7 +49,22 @@ first-of-requires-2 : tie.Need-first-of-requires-2
 first-of-requires-2 c κs = search needs
 
 returns : tie.Need-returns
-returns c = rw (c .first-of2 .ensures, c .before .first-of .ensures, c .before .before .two-tests3 .ensures, c .before .before .before .forbidden2 .ensures, c .before .before .before .before .key-at2 .ensures, c .before .before .before .before .before .forbidden .ensures, c .before .before .before .before .before .before .key-at .ensures, c .before .before .before .before .before .before .before .two-tests2 .ensures, c .before .before .before .before .before .before .before .before .absolute-outside2 .ensures, c .before .before .before .before .before .before .before .before .before .absolute-outside .ensures, c .before .before .before .before .before .before .before .before .before .before .two-tests .ensures, c .before .before .before .before .before .before .before .before .before .before .before .add242 .ensures, c .before .before .before .before .before .before .before .before .before .before .before .before .add24 .ensures)
+returns c =
+    rw (
+      c .first-of2 .ensures,
+      c .before .first-of .ensures,
+      c .before .before .two-tests3 .ensures,
+      c .before .before .before .forbidden2 .ensures,
+      c .before .before .before .before .key-at2 .ensures,
+      c .before .before .before .before .before .forbidden .ensures,
+      c .before .before .before .before .before .before .key-at .ensures,
+      c .before .before .before .before .before .before .before .two-tests2 .ensures,
+      c .before .before .before .before .before .before .before .before .absolute-outside2 .ensures,
+      c .before .before .before .before .before .before .before .before .before .absolute-outside .ensures,
+      c .before .before .before .before .before .before .before .before .before .before .two-tests .ensures,
+      c .before .before .before .before .before .before .before .before .before .before .before .add242 .ensures,
+      c .before .before .before .before .before .before .before .before .before .before .before .before .add24 .ensures,
+    )
 
 pub by-unit-spec : {M : Type 1} → statement M
 by-unit-spec =

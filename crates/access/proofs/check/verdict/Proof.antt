@@ -23,7 +23,16 @@ first-of-requires-2 : tie.Need-first-of-requires-2
 first-of-requires-2 c κs = search needs
 
 returns : tie.Need-returns
-returns c = rw (c .first-of2 .ensures, c .before .first-of .ensures, c .before .before .by-unit .ensures, c .before .before .before .operand .ensures, c .before .before .before .before .valid .ensures, c .before .before .before .before .before .second .ensures) (by-unit _ _ _ _ _ _ _ _ _)
+returns c =
+    rw (
+      c .first-of2 .ensures,
+      c .before .first-of .ensures,
+      c .before .before .by-unit .ensures,
+      c .before .before .before .operand .ensures,
+      c .before .before .before .before .valid .ensures,
+      c .before .before .before .before .before .second .ensures,
+    )
+    (by-unit _ _ _ _ _ _ _ _ _)
 
 pub verdict-spec : {M : Type 1} → statement M
 verdict-spec =

@@ -33,7 +33,13 @@ same-length : tie.Need-same-length
 same-length c = search needs
 
 returns : tie.Need-returns
-returns c = rw (c .recorded2 .ensures, c .before .before .recorded .ensures, c .before .before .before .before .unit-at2 .ensures, c .before .before .before .before .before .unit-at .ensures)
+returns c =
+    rw (
+      c .recorded2 .ensures,
+      c .before .before .recorded .ensures,
+      c .before .before .before .before .unit-at2 .ensures,
+      c .before .before .before .before .before .unit-at .ensures,
+    )
 
 pub record-spec : {M : Type 1} → statement M
 record-spec =

@@ -57,10 +57,12 @@ loop-less : tie.Need-loop-less Inv-loop μ-loop
 loop-less c = omega arith
 
 loop-again : tie.Need-loop-again Inv-loop μ-loop
-loop-again c = (
-  omega arith,
-  one-more _ _ _ _ _ (c .before .before .before .loop .inv .1) _ (rw (c .before .add24 .ensures) (run-place (c .before .before .before .before .before .before .before .args .base) (c .before .before .before .before .before .before .before .args .real) (c .before .before .before .before .before .before .before .args .n) (c .before .before .before .loop .j) (omega arith) (omega arith))),
-)
+loop-again c =
+    let asked = c .before .before .before .before .before .before .before .args in (
+      omega arith,
+      one-more _ _ _ _ _ (c .before .before .before .loop .inv .1) _
+          (rw (c .before .add24 .ensures) (run-place (asked .base) (asked .real) (asked .n) (c .before .before .before .loop .j) (omega arith) (omega arith))),
+    )
 
 same-length : tie.Need-same-length Inv-loop μ-loop
 same-length c = kept-length _ _ _ _ _ (c .before .loop .inv .1)

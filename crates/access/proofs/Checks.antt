@@ -96,9 +96,12 @@ by-unit s m keys n p kind start count b =
           ex,
           ey,
           ez,
-          by-two s start count some short Addressing (λ i. leb m (add24 start i)) (inside-later s start m (configured s m (length keys) p ex valid .whole)),
-          by-two s start count some short AbsoluteAddress (λ i. absoluteOutside m p (add24 start i)) (λ f i r q. absolute-inside s m (length keys) p ex valid (add24 start i)),
-          by-two s start count some short Protection (λ i. forbidden kind p (add24 start i) (getD keys (unitOf s (byteAt p start i)) 0)) (permitted-later s start p keys kind),
+          by-two s start count some short Addressing (λ i. leb m (add24 start i))
+              (inside-later s start m (configured s m (length keys) p ex valid .whole)),
+          by-two s start count some short AbsoluteAddress (λ i. absoluteOutside m p (add24 start i))
+              (λ f i r q. absolute-inside s m (length keys) p ex valid (add24 start i)),
+          by-two s start count some short Protection (λ i. forbidden kind p (add24 start i) (getD keys (unitOf s (byteAt p start i)) 0))
+              (permitted-later s start p keys kind),
         )
         (simp first-assoc)
     go true ex true ey true ez = rw (ex, ey, ez)

@@ -11,6 +11,7 @@ use Rattle.machine.specs.declared.Processor.{Processor}
 use Rattle.machine.specs.declared.AccessKind.{AccessKind}
 use Rattle.machine.specs.declared.AccessKind.the-variants.{Fetch, Store}
 use Rattle.machine.specs.declared.Request.the-variants.{Access}
+use Rattle.machine.specs.declared.Verdict.{Verdict}
 use Rattle.machine.specs.declared.Verdict.the-variants.{Clear}
 use Rattle.machine.specs.declared.Answer.the-variants.{Completed}
 use Rattle.machine.specs.Numbers.{own, unitOf, add24, written}
@@ -110,15 +111,15 @@ module _ (f : ℕ → ℕ) (keys : List ℕ) (unit : ℕ → ℕ) where
       ∙ written-after keys unit value k (suc (n - k - 1))
       ∙ ap (written keys unit value) (omega arith)
 
--- what the routines ask of their parts and give, from a clear verdict, p being the record of processor n; m and b are the lengths of storage
+-- what the routines ask of their parts and give where the verdict v is clear; p is the record of processor n, m and b are the lengths of storage
 -- and buffer
-module _ (s : Settings) (m : ℕ) (keys : List ℕ) (n : ℕ) (p : Processor) (kind : AccessKind) (start count b : ℕ)
-    (clear : verdict s m keys n p (Access kind start count) b ≡ Clear) where
+module _ (s : Settings) (m : ℕ) (keys : List ℕ) (n : ℕ) (p : Processor) (kind : AccessKind) (start count b : ℕ) {v : Verdict}
+    (found : v ≡ verdict s m keys n p (Access kind start count) b) (clear : v ≡ Clear) where
   abbrev k : ℕ
   k = second s start count
 
   planned : plan s m (length keys) n p (Access kind start count) b ≡ Clear
-  planned = clear-plan s m keys n p (Access kind start count) b clear
+  planned = clear-plan s m keys n p (Access kind start count) b (sym found ∙ clear)
 
   pub bytes-may-move : Passed m p start count b
   bytes-may-move = access-passed s m (length keys) n p kind start count b planned
@@ -139,12 +140,12 @@ module _ (s : Settings) (m : ℕ) (keys : List ℕ) (n : ℕ) (p : Processor) (k
       (λ i h l. unit-same s start k i (from-second s start count (bytes-may-move .some) (bytes-may-move .short) i h l) p)
 
 pub completed-access : (s : Settings) (storage keys : List ℕ) (ps : List Processor) (n : ℕ) (p : Processor) (kind : AccessKind) (start count : ℕ) (buffer : List ℕ)
-    → p ≡ own ps n → verdict s (length storage) keys n p (Access kind start count) (length buffer) ≡ Clear
+    {v : Verdict} → p ≡ own ps n → v ≡ verdict s (length storage) keys n p (Access kind start count) (length buffer) → v ≡ Clear
     → outcome (Completed 0) (storageLeft kind storage p start count buffer)
     (bothRecorded kind keys (unitOf s (byteAt p start 0)) (unitOf s (byteAt p start (second s start count)))) ps
     (bufferLeft kind storage p start count buffer)
     ≡ step s storage keys ps n (Access kind start count) buffer
 unfolding completed
-completed-access s storage keys ps n p kind start count buffer e clear =
-    rw (keys-left s (length storage) keys n p kind start count (length buffer) clear)
-    (completed-request s storage keys ps n (Access kind start count) buffer e refl clear)
+completed-access s storage keys ps n p kind start count buffer own-found found clear =
+    rw (keys-left s (length storage) keys n p kind start count (length buffer) found clear)
+    (completed-request s storage keys ps n (Access kind start count) buffer own-found found clear)

@@ -34,7 +34,8 @@ abbrev pub linesAt : Settings → ℕ → List ℕ → Processor → AccessKind 
 linesAt s storageLength keys p kind start k =
     firstOf (twoTests Addressing (leb storageLength (add24 start 0)) k (leb storageLength (add24 start k)))
     (firstOf (twoTests AbsoluteAddress (absoluteOutside storageLength p (add24 start 0)) k (absoluteOutside storageLength p (add24 start k)))
-    (twoTests Protection (forbidden kind p (add24 start 0) (getD keys (unitOf s (byteAt p start 0)) 0)) k (forbidden kind p (add24 start k) (getD keys (unitOf s (byteAt p start k)) 0))))
+    (twoTests Protection (forbidden kind p (add24 start 0) (getD keys (unitOf s (byteAt p start 0)) 0)) k
+    (forbidden kind p (add24 start k) (getD keys (unitOf s (byteAt p start k)) 0))))
 
 -- the key array with an access recorded in the keys of two units
 abbrev pub bothRecorded : AccessKind → List ℕ → ℕ → ℕ → List ℕ

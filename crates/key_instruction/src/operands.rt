@@ -1,4 +1,4 @@
-// A key instruction taken apart: its block, its operation, and what the table of answers asks of its operands.
+// A key instruction taken apart, once for the table of answers and for the operation.
 use machine::KeyInstruction;
 use machine::KeyOperation;
 ghost use mathlib.Core.Path.{_≡_};
@@ -6,6 +6,7 @@ ghost use mathlib.Core.Bool.{true, false};
 ghost use Rattle.machine.specs.KeyInstructions.{block2K, block4K};
 ghost use Rattle.key_instruction.specs.Operands.{partsOf};
 
+// What an instruction names, and what the table asks of its operands.
 pub(crate) struct Parts {
     // ISKE, SSKE or RRBE.
     pub extended: bool,
@@ -45,6 +46,7 @@ fn extended(word: u32, operation: KeyOperation) -> Parts
     }
 }
 
+// The parts of an instruction.
 pub(crate) fn taken_apart(instruction: KeyInstruction) -> Parts
     ensures { λ r. ⌜ r ≡ partsOf instruction ⌝ }
 {

@@ -1,5 +1,4 @@
 -- `key_instruction` gives and leaves what the rules' step does: by the verdict. Where it is clear the keys lie in the array. Assumes nothing.
-use mathlib.Core.Path.{sym, _∙_}
 use Rattle.machine.specs.Step.{completed}
 use Rattle.machine.proofs.Requests.{refused-request, completed-request, verdict-is-plan}
 use Rattle.key_instruction.proofs.Inside.{keys-inside}
@@ -24,15 +23,10 @@ first-unit-requires c κs = search needs
 
 perform-requires : tie.Need-perform-requires
 perform-requires c κs =
-    rw (
-      c .before .before .before .first-unit .ensures,
-      c .before .before .before .before .before .before .before .taken-apart .ensures,
-    )
-    (keys-inside _ _ _ _ _ _ 0
-    (sym (c .before .before .before .before .before .before .verdict .ensures
-    (c .before .before .before .before .before .before .before .before .before .before .args .instruction)
-    (c .before .before .before .before .before .before .before .taken-apart .ensures))
-    ∙ c .before .before .before .before .enum-told .given .1))
+    let chosen = c .before .before .before .before in
+    let apart = chosen .before .before .before .taken-apart .ensures in
+    rw (c .before .before .before .first-unit .ensures, apart)
+    (keys-inside _ _ _ _ _ (chosen .before .before .before .before .before .before .args .instruction) 0 (chosen .before .before .verdict .ensures _ apart) (chosen .enum-told .given .1))
 
 enum-known-verdict : tie.Need-enum-known-verdict
 enum-known-verdict c = search needs
@@ -43,25 +37,23 @@ same-length c = search needs
 returns : tie.Need-returns
 unfolding completed
 returns c = λ storage buffer sized.
+    let chosen = c .before .before .before .before .before .before .before in
+    let apart = chosen .before .before .before .taken-apart .ensures in
+    let record-found = chosen .before .before .before .before .own .ensures in
     rw (
       c .before .before .perform .ensures .0,
       c .before .before .perform .ensures .1 .0,
       c .before .before .perform .ensures .1 .1,
       c .before .before .before .before .before .before .first-unit .ensures,
-      c .before .before .before .before .before .before .before .before .before .before .taken-apart .ensures,
-      ← c .before .before .before .before .before .before .before .before .before .before .before .own .ensures,
+      apart,
+      ← record-found,
     )
-    (completed-request _ storage _ _ _ _ buffer
-    (c .before .before .before .before .before .before .before .before .before .before .before .own .ensures)
-    (verdict-is-plan _ storage _ _ _ _ buffer tt sized
-    (c .before .before .before .before .before .before .before .before .before .verdict .ensures _
-    (c .before .before .before .before .before .before .before .before .before .before .taken-apart .ensures)))
-    (c .before .before .before .before .before .before .before .enum-told .given .1))
+    (completed-request _ storage _ _ _ _ buffer record-found
+    (verdict-is-plan _ storage _ _ _ _ buffer tt sized (chosen .before .before .verdict .ensures _ apart)) (chosen .enum-told .given .1))
 
 returns-2 : tie.Need-returns-2
 returns-2 c = λ storage buffer sized.
-    refused-request _ storage _ _ _ _ buffer
-    (c .before .before .before .before .before .own .ensures)
+    refused-request _ storage _ _ _ _ buffer (c .before .before .before .before .before .own .ensures)
     (verdict-is-plan _ storage _ _ _ _ buffer tt sized
     (c .before .before .before .verdict .ensures _ (c .before .before .before .before .taken-apart .ensures)))
     (c .before .verdict2 .given .1)

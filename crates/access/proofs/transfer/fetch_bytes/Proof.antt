@@ -15,22 +15,20 @@ add24-requires c κs = search needs
 
 fetch-run-requires : tie.Need-fetch-run-requires
 fetch-run-requires c κs =
+    let choice = c .before .before .before in
     rw (c .before .add24 .ensures, c .before .before .byte-at .ensures)
-    (whole-fits (c .before .before .before .before .before .before .before .args .settings) _ _ _ _ _ _
-    (c .before .before .before .before .before .before .before .pre)
-    (c .before .before .before .before .left .ensures)
-    (c .before .before .before .if1 .taken))
+    (whole-fits (choice .before .before .before .before .args .settings) _ _ _ _ _ _ (choice .before .before .before .before .pre)
+    (choice .before .left .ensures) (choice .if1 .taken))
 
 same-length : tie.Need-same-length
 same-length c = search needs
 
 returns : tie.Need-returns
 returns c =
+    let choice = c .before .before .before .before .before .before in
     rw (c .before .before .fetch-run .ensures, c .before .before .before .before .before .byte-at .ensures)
-    (fetch-one (c .before .before .before .before .before .before .before .before .before .before .args .settings) _ _ _ _ _ _
-    (c .before .before .before .before .before .before .before .before .before .before .pre)
-    (c .before .before .before .before .before .before .before .left .ensures) _ _
-    (c .before .before .before .before .before .before .if1 .taken))
+    (fetch-one (choice .before .before .before .before .args .settings) _ _ _ _ _ _ (choice .before .before .before .before .pre)
+    (choice .before .left .ensures) _ _ (choice .if1 .taken))
 
 byte-at-requires-2 : tie.Need-byte-at-requires-2
 byte-at-requires-2 c κs = search needs
@@ -43,11 +41,10 @@ cast-fetch-run c = search needs
 
 fetch-run-requires-2 : tie.Need-fetch-run-requires-2
 fetch-run-requires-2 c κs =
+    let choice = c .before .before .before in
     rw (c .before .add242 .ensures, c .before .before .byte-at2 .ensures)
-    (part-fits (c .before .before .before .before .before .before .before .args .settings) _ _ _ _ _ _
-    (c .before .before .before .before .before .before .before .pre)
-    (c .before .before .before .before .left .ensures)
-    (c .before .before .before .if1 .left))
+    (part-fits (choice .before .before .before .before .args .settings) _ _ _ _ _ _ (choice .before .before .before .before .pre)
+    (choice .before .left .ensures) (choice .if1 .left))
 
 sub-rest : tie.Need-sub-rest
 sub-rest c = search needs
@@ -66,31 +63,25 @@ cast-fetch-run-2 c = search needs
 
 fetch-run-requires-3 : tie.Need-fetch-run-requires-3
 fetch-run-requires-3 c κs =
-    rw (
-      c .before .before .before .before .before .fetch-run2 .kept .1 .1 .1 .0,
-      c .before .add243 .ensures,
-      c .before .before .byte-at3 .ensures,
-    )
-    (rest-fits (c .before .before .before .before .before .before .before .before .before .before .before .before .before .args .settings) _ _ _ _ _ _
-    (c .before .before .before .before .before .before .before .before .before .before .before .before .before .pre)
-    (c .before .before .before .before .before .before .before .before .before .before .left .ensures)
-    (c .before .before .before .before .before .before .before .before .before .if1 .left))
+    let choice = c .before .before .before .before .before .before .before .before .before in
+    rw (c .before .before .before .before .before .fetch-run2 .kept .1 .1 .1 .0, c .before .add243 .ensures, c .before .before .byte-at3 .ensures)
+    (rest-fits (choice .before .before .before .before .args .settings) _ _ _ _ _ _ (choice .before .before .before .before .pre)
+    (choice .before .left .ensures) (choice .if1 .left))
 
 same-length-2 : tie.Need-same-length-2
 same-length-2 c = search needs
 
 returns-2 : tie.Need-returns-2
 returns-2 c =
+    let choice = c .before .before .before .before .before .before .before .before .before .before .before .before in
     rw (
       c .before .before .fetch-run3 .ensures,
       c .before .before .before .before .before .before .before .before .fetch-run2 .ensures,
       c .before .before .before .before .before .byte-at3 .ensures,
       c .before .before .before .before .before .before .before .before .before .before .before .byte-at2 .ensures,
     )
-    (fetch-two (c .before .before .before .before .before .before .before .before .before .before .before .before .before .before .before .before .args .settings) _ _ _ _ _ _
-    (c .before .before .before .before .before .before .before .before .before .before .before .before .before .before .before .before .pre)
-    (c .before .before .before .before .before .before .before .before .before .before .before .before .before .left .ensures) _ _
-    (c .before .before .before .before .before .before .before .before .before .before .before .before .if1 .left))
+    (fetch-two (choice .before .before .before .before .args .settings) _ _ _ _ _ _ (choice .before .before .before .before .pre)
+    (choice .before .left .ensures) _ _ (choice .if1 .left))
 
 pub fetch-bytes-spec : {M : Type 1} → statement M
 fetch-bytes-spec =

@@ -15,22 +15,20 @@ add24-requires c κs = search needs
 
 store-run-requires : tie.Need-store-run-requires
 store-run-requires c κs =
+    let choice = c .before .before .before in
     rw (c .add24 .ensures, c .before .byte-at .ensures)
-    (whole-fits (c .before .before .before .before .before .before .before .args .settings) _ _ _ _ _ _
-    (c .before .before .before .before .before .before .before .pre)
-    (c .before .before .before .before .left .ensures)
-    (c .before .before .before .if1 .taken))
+    (whole-fits (choice .before .before .before .before .args .settings) _ _ _ _ _ _ (choice .before .before .before .before .pre)
+    (choice .before .left .ensures) (choice .if1 .taken))
 
 same-length : tie.Need-same-length
 same-length c = search needs
 
 returns : tie.Need-returns
 returns c =
+    let choice = c .before .before .before .before .before .before in
     rw (c .before .before .store-run .ensures, c .before .before .before .before .byte-at .ensures)
-    (store-one (c .before .before .before .before .before .before .before .before .before .before .args .settings) _ _ _ _ _ _
-    (c .before .before .before .before .before .before .before .before .before .before .pre)
-    (c .before .before .before .before .before .before .before .left .ensures) _ _
-    (c .before .before .before .before .before .before .if1 .taken))
+    (store-one (choice .before .before .before .before .args .settings) _ _ _ _ _ _ (choice .before .before .before .before .pre)
+    (choice .before .left .ensures) _ _ (choice .if1 .taken))
 
 byte-at-requires-2 : tie.Need-byte-at-requires-2
 byte-at-requires-2 c κs = search needs
@@ -43,11 +41,10 @@ cast-store-run c = search needs
 
 store-run-requires-2 : tie.Need-store-run-requires-2
 store-run-requires-2 c κs =
+    let choice = c .before .before .before in
     rw (c .add242 .ensures, c .before .byte-at2 .ensures)
-    (part-fits (c .before .before .before .before .before .before .before .args .settings) _ _ _ _ _ _
-    (c .before .before .before .before .before .before .before .pre)
-    (c .before .before .before .before .left .ensures)
-    (c .before .before .before .if1 .left))
+    (part-fits (choice .before .before .before .before .args .settings) _ _ _ _ _ _ (choice .before .before .before .before .pre)
+    (choice .before .left .ensures) (choice .if1 .left))
 
 sub-rest : tie.Need-sub-rest
 sub-rest c = search needs
@@ -66,31 +63,25 @@ cast-store-run-2 c = search needs
 
 store-run-requires-3 : tie.Need-store-run-requires-3
 store-run-requires-3 c κs =
-    rw (
-      c .before .before .before .before .before .store-run2 .kept .0,
-      c .add243 .ensures,
-      c .before .byte-at3 .ensures,
-    )
-    (rest-fits (c .before .before .before .before .before .before .before .before .before .before .before .before .before .args .settings) _ _ _ _ _ _
-    (c .before .before .before .before .before .before .before .before .before .before .before .before .before .pre)
-    (c .before .before .before .before .before .before .before .before .before .before .left .ensures)
-    (c .before .before .before .before .before .before .before .before .before .if1 .left))
+    let choice = c .before .before .before .before .before .before .before .before .before in
+    rw (c .before .before .before .before .before .store-run2 .kept .0, c .add243 .ensures, c .before .byte-at3 .ensures)
+    (rest-fits (choice .before .before .before .before .args .settings) _ _ _ _ _ _ (choice .before .before .before .before .pre)
+    (choice .before .left .ensures) (choice .if1 .left))
 
 same-length-2 : tie.Need-same-length-2
 same-length-2 c = search needs
 
 returns-2 : tie.Need-returns-2
 returns-2 c =
+    let choice = c .before .before .before .before .before .before .before .before .before .before .before .before in
     rw (
       c .before .before .store-run3 .ensures,
       c .before .before .before .before .before .before .before .before .store-run2 .ensures,
       c .before .before .before .before .byte-at3 .ensures,
       c .before .before .before .before .before .before .before .before .before .before .byte-at2 .ensures,
     )
-    (store-two (c .before .before .before .before .before .before .before .before .before .before .before .before .before .before .before .before .args .settings) _ _ _ _ _ _
-    (c .before .before .before .before .before .before .before .before .before .before .before .before .before .before .before .before .pre)
-    (c .before .before .before .before .before .before .before .before .before .before .before .before .before .left .ensures) _ _
-    (c .before .before .before .before .before .before .before .before .before .before .before .before .if1 .left))
+    (store-two (choice .before .before .before .before .args .settings) _ _ _ _ _ _ (choice .before .before .before .before .pre)
+    (choice .before .left .ensures) _ _ (choice .if1 .left))
 
 pub store-bytes-spec : {M : Type 1} → statement M
 store-bytes-spec =

@@ -2,4 +2,3 @@
 pub mod Lines
 pub mod Keys
 pub mod Inside
-pub mod Steps

@@ -1,2 +1,3 @@
 -- What the helpers of this crate ask and give.
+pub mod Operands
 pub mod Units

@@ -14,21 +14,20 @@ ghost use mathlib.Core.Path.{_≡_};
 ghost use mathlib.Core.List.{List};
 ghost use lib.ListN.{length, set};
 ghost use Rattle.machine.specs.KeyInstructions.{wordGiven, keysLeft, codeLeft};
-ghost use Rattle.machine.specs.Numbers.{own as recordOf};
-ghost use Rattle.machine.specs.Step.{firstUnit, withCode, outcome, step};
+ghost use Rattle.machine.specs.Numbers.{unitOf, own as recordOf};
+ghost use Rattle.machine.specs.Prefixing.{absolute};
+ghost use Rattle.machine.specs.Step.{withCode, outcome, step};
 ghost use Rattle.key_instruction.specs.Units.{Inside};
 
 mod checks;
 mod operands;
 mod operations;
 
-// The key unit of the block that an instruction designates to a processor with the record p.
-fn first_unit(settings: Settings, p: Processor, instruction: KeyInstruction) -> usize
-    ensures { λ r. ⌜ r ≡ firstUnit settings p instruction ⌝ }
+// The key unit of a block with this real address, for a processor with the record p.
+fn first_unit(settings: Settings, p: Processor, block: u32) -> usize
+    ensures { λ r. ⌜ r ≡ unitOf settings (absolute (p .prefix) block) ⌝ }
 {
-    let real = operands::designated(instruction);
-    let absolute = prefixing::absolute(p.prefix, real);
-    unit_of(settings, absolute as usize)
+    unit_of(settings, prefixing::absolute(p.prefix, block) as usize)
 }
 
 // An operation on the keys of unit u and, if on two, of unit u + 1.
@@ -87,12 +86,13 @@ pub fn key_instruction(
         → outcome (r .answer) storage (now (keys .exit)) (r .processors) buffer ≡ step settings storage (now (keys .entry)) processors number (Request.Key instruction) buffer) ⌝ }
 {
     let p = own(processors, number);
-    let verdict = checks::verdict(settings, storage_length, keys.len(), number, p, instruction);
+    let parts = operands::taken_apart(instruction);
+    let verdict = checks::verdict(settings, storage_length, keys.len(), number, p, parts);
     match verdict {
         Verdict::Clear => {
-            let u = first_unit(settings, p, instruction);
-            let two = operands::two_keys(settings, instruction);
-            let operation = operands::operation(instruction);
+            let u = first_unit(settings, p, parts.block);
+            let two = parts.extended & !settings.four_k;
+            let operation = parts.operation;
             perform(keys, processors, number, u, two, operation)
         }
         Verdict::Stop { reason, place } => Reply {

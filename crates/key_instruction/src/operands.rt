@@ -1,97 +1,67 @@
-// What a key instruction names: its block, its operation, and whether it is an extended one; and what the table asks of its operands.
+// A key instruction taken apart, once for the table of answers and for the operation.
 use machine::KeyInstruction;
 use machine::KeyOperation;
-use machine::Settings;
 ghost use mathlib.Core.Path.{_≡_};
-ghost use Rattle.machine.specs.KeyInstructions.{extended as isExtended, block2K, block4K, designated as designatedBy, addressInvalid, unspecified as isUnspecified, operation as operationOf, twoKeys};
+ghost use mathlib.Core.Bool.{true, false};
+ghost use Rattle.machine.specs.KeyInstructions.{block2K, block4K};
+ghost use Rattle.key_instruction.specs.Operands.{partsOf};
 
-// ISKE, SSKE and RRBE.
-pub(crate) fn extended(instruction: KeyInstruction) -> bool
-    ensures { λ r. ⌜ r ≡ isExtended instruction ⌝ }
+// What an instruction names, and what the table asks of its operands.
+pub(crate) struct Parts {
+    // ISKE, SSKE or RRBE.
+    pub extended: bool,
+    // The real address of the block that it designates.
+    pub block: u32,
+    // What it does with the keys of the block.
+    pub operation: KeyOperation,
+    // The address of RRB is 16,777,216 or more.
+    pub address_invalid: bool,
+    // ISK or SSK with any of bits 28-31 of R2 on.
+    pub unspecified: bool,
+}
+
+// ISK, SSK or RRB: bits 8-20 of a word designate a 2K block.
+fn basic(word: u32, operation: KeyOperation, address_invalid: bool, unspecified: bool) -> Parts
+    ensures { λ r. ⌜ r ≡ record { extended = false; block = block2K word; operation = operation; «address_invalid» = «address_invalid»; unspecified = unspecified } ⌝ }
 {
-    match instruction {
-        KeyInstruction::Isk { r1: _, r2: _ } => false,
-        KeyInstruction::Ssk { r1: _, r2: _ } => false,
-        KeyInstruction::Rrb { address: _ } => false,
-        KeyInstruction::Iske { r1: _, r2: _ } => true,
-        KeyInstruction::Sske { r1: _, r2: _ } => true,
-        KeyInstruction::Rrbe { r2: _ } => true,
+    Parts {
+        extended: false,
+        block: word % 16777216 / 2048 * 2048,
+        operation,
+        address_invalid,
+        unspecified,
     }
 }
 
-// The real address of the 2K block that bits 8-20 of a word designate.
-fn block_2k(word: u32) -> u32
-    ensures { λ r. ⌜ r ≡ block2K word ⌝ }
+// ISKE, SSKE or RRBE: bits 1-19 of a word designate a 4K block.
+fn extended(word: u32, operation: KeyOperation) -> Parts
+    ensures { λ r. ⌜ r ≡ record { extended = true; block = block4K word; operation = operation; «address_invalid» = false; unspecified = false } ⌝ }
 {
-    word % 16777216 / 2048 * 2048
-}
-
-// The real address of the 4K block that bits 1-19 of a word designate.
-fn block_4k(word: u32) -> u32
-    ensures { λ r. ⌜ r ≡ block4K word ⌝ }
-{
-    word % 2147483648 / 4096 * 4096
-}
-
-// The real address of the block that an instruction designates.
-pub(crate) fn designated(instruction: KeyInstruction) -> u32
-    ensures { λ r. ⌜ r ≡ designatedBy instruction ⌝ }
-{
-    match instruction {
-        KeyInstruction::Isk { r1: _, r2 } => block_2k(r2),
-        KeyInstruction::Ssk { r1: _, r2 } => block_2k(r2),
-        KeyInstruction::Rrb { address } => block_2k(address),
-        KeyInstruction::Iske { r1: _, r2 } => block_4k(r2),
-        KeyInstruction::Sske { r1: _, r2 } => block_4k(r2),
-        KeyInstruction::Rrbe { r2 } => block_4k(r2),
+    Parts {
+        extended: true,
+        block: word % 2147483648 / 4096 * 4096,
+        operation,
+        address_invalid: false,
+        unspecified: false,
     }
 }
 
-// The address of RRB is 16,777,216 or more.
-pub(crate) fn address_invalid(instruction: KeyInstruction) -> bool
-    ensures { λ r. ⌜ r ≡ addressInvalid instruction ⌝ }
+// The parts of an instruction.
+pub(crate) fn taken_apart(instruction: KeyInstruction) -> Parts
+    ensures { λ r. ⌜ r ≡ partsOf instruction ⌝ }
 {
     match instruction {
-        KeyInstruction::Isk { r1: _, r2: _ } => false,
-        KeyInstruction::Ssk { r1: _, r2: _ } => false,
-        KeyInstruction::Rrb { address } => address >= 16777216,
-        KeyInstruction::Iske { r1: _, r2: _ } => false,
-        KeyInstruction::Sske { r1: _, r2: _ } => false,
-        KeyInstruction::Rrbe { r2: _ } => false,
+        KeyInstruction::Isk { r1, r2 } => {
+            basic(r2, KeyOperation::Insert { r1 }, false, !(r2 % 16 == 0))
+        }
+        KeyInstruction::Ssk { r1, r2 } => {
+            basic(r2, KeyOperation::Set { r1 }, false, !(r2 % 16 == 0))
+        }
+        KeyInstruction::Rrb { address } => {
+            basic(address, KeyOperation::Reset, address >= 16777216, false)
+        }
+        KeyInstruction::Iske { r1, r2 } => extended(r2, KeyOperation::Insert { r1 }),
+        KeyInstruction::Sske { r1, r2 } => extended(r2, KeyOperation::Set { r1 }),
+        KeyInstruction::Rrbe { r2 } => extended(r2, KeyOperation::Reset),
     }
-}
-
-// ISK or SSK with any of bits 28-31 of R2 on.
-pub(crate) fn unspecified(instruction: KeyInstruction) -> bool
-    ensures { λ r. ⌜ r ≡ isUnspecified instruction ⌝ }
-{
-    match instruction {
-        KeyInstruction::Isk { r1: _, r2 } => !(r2 % 16 == 0),
-        KeyInstruction::Ssk { r1: _, r2 } => !(r2 % 16 == 0),
-        KeyInstruction::Rrb { address: _ } => false,
-        KeyInstruction::Iske { r1: _, r2: _ } => false,
-        KeyInstruction::Sske { r1: _, r2: _ } => false,
-        KeyInstruction::Rrbe { r2: _ } => false,
-    }
-}
-
-// What an instruction does with the keys of its block.
-pub(crate) fn operation(instruction: KeyInstruction) -> KeyOperation
-    ensures { λ r. ⌜ r ≡ operationOf instruction ⌝ }
-{
-    match instruction {
-        KeyInstruction::Isk { r1, r2: _ } => KeyOperation::Insert { r1 },
-        KeyInstruction::Ssk { r1, r2: _ } => KeyOperation::Set { r1 },
-        KeyInstruction::Rrb { address: _ } => KeyOperation::Reset,
-        KeyInstruction::Iske { r1, r2: _ } => KeyOperation::Insert { r1 },
-        KeyInstruction::Sske { r1, r2: _ } => KeyOperation::Set { r1 },
-        KeyInstruction::Rrbe { r2: _ } => KeyOperation::Reset,
-    }
-}
-
-// It works on both keys of the block.
-pub(crate) fn two_keys(settings: Settings, instruction: KeyInstruction) -> bool
-    ensures { λ r. ⌜ r ≡ twoKeys settings instruction ⌝ }
-{
-    extended(instruction) & !settings.four_k
 }

@@ -22,11 +22,11 @@ length-written xs place value zero = refl
 length-written xs place value (suc n) = simp length-set (length-written xs place value n)
 
 -- no write reaches u; or the last that does puts value i there
-pub data Last (xs : List ℕ) (place value : ℕ → ℕ) (n u : ℕ) : Type 0 where
+data Last (xs : List ℕ) (place value : ℕ → ℕ) (n u : ℕ) : Type 0 where
   none : ((i : ℕ) → i < n → place i ≢ u) → getD (written xs place value n) u 0 ≡ getD xs u 0 → Last xs place value n u
   last : (i : ℕ) → i < n → place i ≡ u → (u < length xs → getD (written xs place value n) u 0 ≡ value i) → Last xs place value n u
 
-pub last-write : (xs : List ℕ) (place value : ℕ → ℕ) (n u : ℕ) → Last xs place value n u
+last-write : (xs : List ℕ) (place value : ℕ → ℕ) (n u : ℕ) → Last xs place value n u
 unfolding written
 last-write xs place value zero u = none (λ i h. absurd (omega arith)) refl
 last-write xs place value (suc n) u = go (ℕ-discrete (place n) u) (last-write xs place value n u)
@@ -44,7 +44,8 @@ last-write xs place value (suc n) u = go (ℕ-discrete (place n) u) (last-write 
     go (no e) (last i h q g) = last i (omega arith) q (λ k. there e ∙ g k)
 
 -- an element that no write reaches is as before
-pub written-elsewhere : (xs : List ℕ) (place value : ℕ → ℕ) (n u : ℕ) → ((i : ℕ) → i < n → place i ≢ u) → getD (written xs place value n) u 0 ≡ getD xs u 0
+pub written-elsewhere : (xs : List ℕ) (place value : ℕ → ℕ) (n u : ℕ) → ((i : ℕ) → i < n → place i ≢ u)
+    → getD (written xs place value n) u 0 ≡ getD xs u 0
 written-elsewhere xs place value n u apart = go (last-write xs place value n u)
   where
     go : Last xs place value n u → getD (written xs place value n) u 0 ≡ getD xs u 0
@@ -52,7 +53,8 @@ written-elsewhere xs place value n u apart = go (last-write xs place value n u)
     go (last i h q g) = absurd (apart i h q)
 
 -- an element that is written holds value i, where every write to place i writes value i
-pub written-there : (xs : List ℕ) (place value : ℕ → ℕ) (n i : ℕ) → i < n → place i < length xs → ((j : ℕ) → j < n → place j ≡ place i → value j ≡ value i)
+pub written-there : (xs : List ℕ) (place value : ℕ → ℕ) (n i : ℕ) → i < n → place i < length xs
+    → ((j : ℕ) → j < n → place j ≡ place i → value j ≡ value i)
     → getD (written xs place value n) (place i) 0 ≡ value i
 written-there xs place value n i h inside same = go (last-write xs place value n (place i))
   where

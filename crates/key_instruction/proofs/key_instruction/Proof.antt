@@ -1,13 +1,16 @@
 -- `key_instruction` gives and leaves what the rules' step does: by the verdict. Where it is clear the keys lie in the array. Assumes nothing.
-use mathlib.Core.Path.{sym, _∙_}
+use Rattle.machine.specs.Step.{completed}
+use Rattle.machine.proofs.Requests.{refused-request, completed-request, verdict-is-plan}
 use Rattle.key_instruction.proofs.Inside.{keys-inside}
-use Rattle.key_instruction.proofs.Steps.{refused-step, completed-step}
 use borrow.Author.Needs.{needs}
 use Rattle.key_instruction.proofs.key_instruction.Statement.{statement}
 use Rattle.key_instruction.proofs.key_instruction.Tie as tie
 
 own-requires : tie.Need-own-requires
 own-requires c κs = search needs
+
+taken-apart-requires : tie.Need-taken-apart-requires
+taken-apart-requires c κs = search needs
 
 verdict-requires : tie.Need-verdict-requires
 verdict-requires c κs = search needs
@@ -18,17 +21,12 @@ enum-told c = search needs
 first-unit-requires : tie.Need-first-unit-requires
 first-unit-requires c κs = search needs
 
-two-keys-requires : tie.Need-two-keys-requires
-two-keys-requires c κs = search needs
-
-operation-requires : tie.Need-operation-requires
-operation-requires c κs = search needs
-
 perform-requires : tie.Need-perform-requires
 perform-requires c κs =
-    rw (c .before .before .before .first-unit .ensures, c .before .before .two-keys .ensures)
-    (keys-inside _ _ _ _ _ _ 0
-    (sym (c .before .before .before .before .before .before .verdict .ensures) ∙ c .before .before .before .before .enum-told .given .1))
+    let chosen = c .before .before .before .before in
+    let apart = chosen .before .before .before .taken-apart .ensures in
+    rw (c .before .before .before .first-unit .ensures, apart)
+    (keys-inside _ _ _ _ _ (chosen .before .before .before .before .before .before .args .instruction) 0 (chosen .before .before .verdict .ensures _ apart) (chosen .enum-told .given .1))
 
 enum-known-verdict : tie.Need-enum-known-verdict
 enum-known-verdict c = search needs
@@ -37,25 +35,27 @@ same-length : tie.Need-same-length
 same-length c = search needs
 
 returns : tie.Need-returns
+unfolding completed
 returns c = λ storage buffer sized.
-    completed-step _ _ _ _ _
-    (c .before .before .before .before .before .before .before .before .before .before .own .ensures)
-    (c .before .before .before .before .before .before .before .before .before .verdict .ensures)
-    storage buffer sized
-    (c .before .before .before .before .before .before .before .enum-told .given .1)
-    (c .before .before .before .before .before .before .first-unit .ensures)
-    (c .before .before .before .before .before .two-keys .ensures)
-    (c .before .before .before .before .operation .ensures)
-    (c .before .before .perform .ensures .0)
-    (c .before .before .perform .ensures .1 .0)
-    (c .before .before .perform .ensures .1 .1)
+    let chosen = c .before .before .before .before .before .before .before in
+    let apart = chosen .before .before .before .taken-apart .ensures in
+    let record-found = chosen .before .before .before .before .own .ensures in
+    rw (
+      c .before .before .perform .ensures .0,
+      c .before .before .perform .ensures .1 .0,
+      c .before .before .perform .ensures .1 .1,
+      c .before .before .before .before .before .before .first-unit .ensures,
+      apart,
+      ← record-found,
+    )
+    (completed-request _ storage _ _ _ _ buffer record-found
+    (verdict-is-plan _ storage _ _ _ _ buffer tt sized (chosen .before .before .verdict .ensures _ apart)) (chosen .enum-told .given .1))
 
 returns-2 : tie.Need-returns-2
 returns-2 c = λ storage buffer sized.
-    refused-step _ _ _ _ _
-    (c .before .before .before .before .own .ensures)
-    (c .before .before .before .verdict .ensures)
-    storage buffer sized
+    refused-request _ storage _ _ _ _ buffer (c .before .before .before .before .before .own .ensures)
+    (verdict-is-plan _ storage _ _ _ _ buffer tt sized
+    (c .before .before .before .verdict .ensures _ (c .before .before .before .before .taken-apart .ensures)))
     (c .before .verdict2 .given .1)
 
 pub key-instruction-spec : {M : Type 1} → statement M
@@ -63,11 +63,10 @@ key-instruction-spec =
     tie.close
     (tie.spec
     own-requires
+    taken-apart-requires
     verdict-requires
     enum-told
     first-unit-requires
-    two-keys-requires
-    operation-requires
     perform-requires
     enum-known-verdict
     same-length

@@ -1,20 +1,13 @@
 -- `address_lines` is lines 5 and 67 of the table: by what each call gives. Assumes nothing.
-use Rattle.machine.specs.Table.{addressing, absoluteAddressing}
 use borrow.Author.Needs.{needs}
 use Rattle.key_instruction.proofs.checks.address_lines.Statement.{statement}
 use Rattle.key_instruction.proofs.checks.address_lines.Tie as tie
-
-designated-requires : tie.Need-designated-requires
-designated-requires c κs = search needs
 
 absolute-requires : tie.Need-absolute-requires
 absolute-requires c κs = search needs
 
 cast-absolute : tie.Need-cast-absolute
 cast-absolute c = search needs
-
-cast-real : tie.Need-cast-real
-cast-real c = search needs
 
 refuse-requires : tie.Need-refuse-requires
 refuse-requires c κs = search needs
@@ -26,24 +19,14 @@ first-of-requires : tie.Need-first-of-requires
 first-of-requires c κs = search needs
 
 returns : tie.Need-returns
-unfolding addressing absoluteAddressing
-returns c =
-    rw (
-      c .first-of .ensures,
-      c .before .refuse2 .ensures,
-      c .before .before .refuse .ensures,
-      c .before .before .before .absolute .ensures,
-      c .before .before .before .before .designated .ensures,
-    )
+returns c = rw (c .first-of .ensures, c .before .refuse2 .ensures, c .before .before .refuse .ensures, c .before .before .before .absolute .ensures)
 
 pub address-lines-spec : {M : Type 1} → statement M
 address-lines-spec =
     tie.close
     (tie.spec
-    designated-requires
     absolute-requires
     cast-absolute
-    cast-real
     refuse-requires
     refuse-requires-2
     first-of-requires

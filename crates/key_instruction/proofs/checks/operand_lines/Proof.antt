@@ -1,14 +1,7 @@
+-- `operand_lines` is lines 66 and 1 of the table: by what each call gives. Assumes nothing.
 use borrow.Author.Needs.{needs}
 use Rattle.key_instruction.proofs.checks.operand_lines.Statement.{statement}
 use Rattle.key_instruction.proofs.checks.operand_lines.Tie as tie
-
--- `operand_lines` is lines 66 and 1 of the table: by what each call gives. Assumes nothing.
-
-address-invalid-requires : tie.Need-address-invalid-requires
-address-invalid-requires c κs = search needs
-
-extended-requires : tie.Need-extended-requires
-extended-requires c κs = search needs
 
 refuse-requires : tie.Need-refuse-requires
 refuse-requires c κs = search needs
@@ -20,22 +13,8 @@ first-of-requires : tie.Need-first-of-requires
 first-of-requires c κs = search needs
 
 returns : tie.Need-returns
-returns c =
-    rw (
-      c .first-of .ensures,
-      c .before .refuse2 .ensures,
-      c .before .before .before .refuse .ensures,
-      c .before .before .before .before .extended .ensures,
-      c .before .before .before .before .before .address-invalid .ensures,
-    )
+returns c = rw (c .first-of .ensures, c .before .refuse2 .ensures, c .before .before .before .before .refuse .ensures)
 
 pub operand-lines-spec : {M : Type 1} → statement M
 operand-lines-spec =
-    tie.close
-    (tie.spec
-    address-invalid-requires
-    extended-requires
-    refuse-requires
-    refuse-requires-2
-    first-of-requires
-    returns)
+    tie.close (tie.spec refuse-requires refuse-requires-2 first-of-requires returns)

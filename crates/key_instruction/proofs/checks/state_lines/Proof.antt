@@ -1,14 +1,7 @@
+-- `state_lines` is lines 2, 19 and 6 of the table: by what each call gives. Assumes nothing.
 use borrow.Author.Needs.{needs}
 use Rattle.key_instruction.proofs.checks.state_lines.Statement.{statement}
 use Rattle.key_instruction.proofs.checks.state_lines.Tie as tie
-
--- `state_lines` is lines 2, 19 and 6 of the table: by what each call gives. Assumes nothing.
-
-extended-requires : tie.Need-extended-requires
-extended-requires c κs = search needs
-
-unspecified-requires : tie.Need-unspecified-requires
-unspecified-requires c κs = search needs
 
 refuse-requires : tie.Need-refuse-requires
 refuse-requires c κs = search needs
@@ -33,16 +26,12 @@ returns c =
       c .before .before .refuse3 .ensures,
       c .before .before .before .refuse2 .ensures,
       c .before .before .before .before .refuse .ensures,
-      c .before .before .before .before .before .before .before .unspecified .ensures,
-      c .before .before .before .before .before .before .before .before .extended .ensures,
     )
 
 pub state-lines-spec : {M : Type 1} → statement M
 state-lines-spec =
     tie.close
     (tie.spec
-    extended-requires
-    unspecified-requires
     refuse-requires
     refuse-requires-2
     refuse-requires-3

@@ -1,5 +1,5 @@
 -- `verdict` is the table's lines from 64 to 67: the groups, one after the other. Assumes nothing.
-use Rattle.machine.specs.Table.{plan}
+use Rattle.machine.specs.Table.{addressing, absoluteAddressing, plan}
 use Rattle.key_instruction.proofs.Lines.{nine-lines}
 use borrow.Author.Needs.{needs}
 use Rattle.key_instruction.proofs.checks.verdict.Statement.{statement}
@@ -27,8 +27,8 @@ first-of-requires-3 : tie.Need-first-of-requires-3
 first-of-requires-3 c κs = search needs
 
 returns : tie.Need-returns
-unfolding plan
-returns c =
+unfolding addressing absoluteAddressing plan
+returns c = λ i apart.
     rw (
       c .first-of3 .ensures,
       c .before .first-of2 .ensures,
@@ -37,7 +37,9 @@ returns c =
       c .before .before .before .before .state-lines .ensures,
       c .before .before .before .before .before .operand-lines .ensures,
       c .before .before .before .before .before .before .valid .ensures,
-    ) (nine-lines _ _ _ _ _ _ _ _ _)
+      apart,
+    )
+    (nine-lines _ _ _ _ _ _ _ _ _)
 
 pub verdict-spec : {M : Type 1} → statement M
 verdict-spec =

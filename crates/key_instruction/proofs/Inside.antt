@@ -13,7 +13,6 @@ use Rattle.machine.specs.KeyInstructions.{twoKeys, keyCount}
 use Rattle.machine.specs.Table.{plan}
 use Rattle.machine.specs.Step.{firstUnit}
 use Rattle.machine.proofs.Verdicts.{not-both}
-use Rattle.machine.proofs.Plans.{plan-clear}
 use Rattle.machine.proofs.KeyInstructions.{key-instruction-passed}
 use Rattle.key_instruction.specs.Units.{Inside}
 
@@ -22,9 +21,6 @@ one-or-two keyLength u true all = (omega (arith, all 0 (omega arith)), λ e. all
 one-or-two keyLength u false all = (omega (arith, all 0 (omega arith)), λ e. absurd (not-both e refl))
 
 pub keys-inside : (s : Settings) (storageLength keyLength n : ℕ) (p : Processor) (i : KeyInstruction) (bufferLength : ℕ) {v : Verdict}
-    → v ≡ plan s storageLength keyLength n p (Key i) bufferLength → v ≡ Clear → Inside keyLength (firstUnit s p i) (twoKeys s i) × (n < 2)
+    → v ≡ plan s storageLength keyLength n p (Key i) bufferLength → v ≡ Clear → Inside keyLength (firstUnit s p i) (twoKeys s i)
 keys-inside s storageLength keyLength n p i bufferLength found clear =
-    let planned = sym found ∙ clear in (
-      one-or-two keyLength _ (twoKeys s i) (key-instruction-passed s p i storageLength keyLength n bufferLength planned),
-      plan-clear s storageLength keyLength n p (Key i) bufferLength planned .number,
-    )
+    one-or-two keyLength _ (twoKeys s i) (key-instruction-passed s p i storageLength keyLength n bufferLength (sym found ∙ clear))

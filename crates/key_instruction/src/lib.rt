@@ -3,13 +3,12 @@ use machine::Answer;
 use machine::KeyInstruction;
 use machine::KeyOperation;
 use machine::Processor;
-use machine::Reply;
 use machine::Request;
+use machine::Served;
 use machine::Settings;
 use machine::Verdict;
-use machine::numbers::own;
 use machine::numbers::unit_of;
-ghost use Prim.Native.Nat.{ℕ, _<_};
+ghost use Prim.Native.Nat.{ℕ};
 ghost use mathlib.Core.Path.{_≡_};
 ghost use mathlib.Core.List.{List};
 ghost use lib.ListN.{length, set};
@@ -30,62 +29,52 @@ fn first_unit(settings: Settings, p: Processor, block: u32) -> usize
     unit_of(settings, prefixing::absolute(p.prefix, block) as usize)
 }
 
-// An operation on the keys of unit u and, if on two, of unit u + 1.
-fn perform(
-    keys: &mut [u8],
-    processors: [Processor; 2],
-    number: usize,
-    u: usize,
-    two: bool,
-    operation: KeyOperation,
-) -> Reply
-    requires { ⌜ Inside (length (now keys)) u two × (number < 2) ⌝ }
+// An operation on the keys of unit u and, if on two, of unit u + 1, for a processor with the record p.
+fn perform(keys: &mut [u8], p: Processor, u: usize, two: bool, operation: KeyOperation) -> Served
+    requires { ⌜ Inside (length (now keys)) u two ⌝ }
     ensures { λ r. ⌜ r .answer ≡ Answer.Completed (wordGiven (now (keys .entry)) u two operation) ⌝ }
     ensures { λ r. ⌜ now (keys .exit) ≡ keysLeft (now (keys .entry)) u two operation ⌝ }
-    ensures { λ r. ⌜ r .processors
-        ≡ set processors number
-        (withCode (recordOf processors number) (codeLeft (now (keys .entry)) u operation (recordOf processors number .code))) ⌝ }
+    ensures { λ r. ⌜ r .processor ≡ withCode p (codeLeft (now (keys .entry)) u operation (p .code)) ⌝ }
 {
     match operation {
         KeyOperation::Insert { r1 } => {
             let word = operations::insert(keys, u, two, r1);
-            Reply {
+            Served {
                 answer: Answer::Completed { word },
-                processors,
+                processor: p,
             }
         }
         KeyOperation::Set { r1 } => {
             operations::set(keys, u, two, r1);
-            Reply {
+            Served {
                 answer: Answer::Completed { word: 0 },
-                processors,
+                processor: p,
             }
         }
         KeyOperation::Reset => {
-            let mut next = processors;
-            next[number].code = operations::reset(keys, u, two);
-            Reply {
+            let mut next = p;
+            next.code = operations::reset(keys, u, two);
+            Served {
                 answer: Answer::Completed { word: 0 },
-                processors: next,
+                processor: next,
             }
         }
     }
 }
 
-// A key instruction for one processor. It takes no buffer, and of storage the length alone: for every storage of this length and every
-// buffer the outcome is the step's, with the two as they were.
+// A key instruction for the processor with this number and the record p. It takes no buffer, and of storage the length alone: for every
+// storage of this length, every buffer and every pair in which the processor has this record, what is left is what the step leaves.
 pub fn key_instruction(
     settings: Settings,
     storage_length: usize,
     keys: &mut [u8],
-    processors: [Processor; 2],
+    p: Processor,
     number: usize,
     instruction: KeyInstruction,
-) -> Reply
-    ensures { λ r. ⌜ ((storage buffer : List ℕ) → length storage ≡ «storage_length»
-        → outcome (r .answer) storage (now (keys .exit)) (r .processors) buffer ≡ step settings storage (now (keys .entry)) processors number (Request.Key instruction) buffer) ⌝ }
+) -> Served
+    ensures { λ r. ⌜ ((storage : List ℕ) (ps : List Processor) (buffer : List ℕ) → length storage ≡ «storage_length» → recordOf ps number ≡ p
+        → outcome (r .answer) storage (now (keys .exit)) (set ps number (r .processor)) buffer ≡ step settings storage (now (keys .entry)) ps number (Request.Key instruction) buffer) ⌝ }
 {
-    let p = own(processors, number);
     let parts = operands::taken_apart(instruction);
     let verdict = checks::verdict(settings, storage_length, keys.len(), number, p, parts);
     match verdict {
@@ -93,11 +82,11 @@ pub fn key_instruction(
             let u = first_unit(settings, p, parts.block);
             let two = parts.extended & !settings.four_k;
             let operation = parts.operation;
-            perform(keys, processors, number, u, two, operation)
+            perform(keys, p, u, two, operation)
         }
-        Verdict::Stop { reason, place } => Reply {
+        Verdict::Stop { reason, place } => Served {
             answer: Answer::Refused { reason, place },
-            processors,
+            processor: p,
         },
     }
 }

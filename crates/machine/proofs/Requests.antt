@@ -9,7 +9,7 @@ use mathlib.Core.List.{List}
 use lib.Dec.{eqb}
 use native.Mathlib.Omega.{arith}
 use lib.ListN.{length, set, length-set}
-use lib.Seq.{getD-set-other}
+use lib.Seq.{set-getD, getD-set-other}
 use borrow.Author.Tests.{le-ltb}
 use Rattle.machine.specs.declared.Settings.{Settings}
 use Rattle.machine.specs.declared.Processor.{Processor}
@@ -209,6 +209,10 @@ module _ (s : Settings) (storage keys : List ℕ) (ps : List Processor) (n : ℕ
           ≡ unchanged (values (cond b (Refused Record 0) (Refused Configuration 0)))
       go true = refl
       go false = refl
+
+-- a pair in which the record of a processor is replaced by itself
+pub own-put-back : (ps : List Processor) (n : ℕ) (p : Processor) → own ps n ≡ p → set ps n p ≡ ps
+own-put-back ps n p e = ap (set ps n) (sym e) ∙ set-getD ps n _
 
 -- The step from what a routine finds: p is the record of its processor and v the verdict.
 module _ (s : Settings) (storage keys : List ℕ) (ps : List Processor) (n : ℕ) (r : Request) (buffer : List ℕ) {p : Processor} {v : Verdict}

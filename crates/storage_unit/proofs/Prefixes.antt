@@ -2,22 +2,17 @@
 use Prim.Native.Nat.{ℕ}
 use mathlib.Core.Path.{_≡_, refl}
 use mathlib.Core.Bool.{false, not, _&&_}
-use mathlib.Core.List.{List}
 use lib.Dec.{ltb}
-use lib.ListN.{length, set}
 use Rattle.machine.specs.declared.Settings.{Settings}
 use Rattle.machine.specs.declared.Processor.{Processor}
 use Rattle.machine.specs.declared.PrefixInstruction.{PrefixInstruction}
 use Rattle.machine.specs.declared.Request.the-variants.{Prefix}
 use Rattle.machine.specs.declared.Reason.{Reason}
 use Rattle.machine.specs.declared.Reason.the-variants.{Configuration, Record, Privileged, Addressing}
-use Rattle.machine.specs.declared.Answer.the-variants.{Completed, Refused}
 use Rattle.machine.specs.declared.Verdict.{Verdict}
-use Rattle.machine.specs.declared.Verdict.the-variants.{Clear, Stop}
-use Rattle.machine.specs.Numbers.{own, lengthsValid, recordValid}
+use Rattle.machine.specs.Numbers.{lengthsValid, recordValid}
 use Rattle.machine.specs.Answers.{line, firstOf, firstLine}
-use Rattle.machine.specs.Table.{installOutside, addressing, absoluteAddressing, protection, plan, verdict}
-use Rattle.machine.specs.Step.{outcome, recordLeft, prefixGiven, completed, performed, step}
+use Rattle.machine.specs.Table.{installOutside, addressing, absoluteAddressing, plan}
 use Rattle.machine.proofs.Verdicts.{first-none, first-assoc}
 
 -- a line that does not apply
@@ -32,18 +27,3 @@ pub four-lines : (s : Settings) (storageLength keyLength n : ℕ) (p : Processor
     ≡ plan s storageLength keyLength n p (Prefix i) 0
 unfolding plan firstLine addressing absoluteAddressing
 four-lines s storageLength keyLength n p i = simp (first-assoc, first-none, skipped)
-
-module _ (s : Settings) (storage keys : List ℕ) (ps : List Processor) (n : ℕ) (p : Processor) (i : PrefixInstruction) (buffer : List ℕ) (e : p ≡ own ps n) where
-  by-plan : step s storage keys ps n (Prefix i) buffer ≡ performed (plan s (length storage) (length keys) n p (Prefix i) 0) s storage keys ps n (Prefix i) buffer
-  unfolding step verdict protection plan
-  by-plan = rw (e, first-none)
-
-  pub refused-prefix : (reason : Reason) (place : ℕ) → plan s (length storage) (length keys) n p (Prefix i) 0 ≡ Stop reason place
-      → outcome (Refused reason place) storage keys ps buffer ≡ step s storage keys ps n (Prefix i) buffer
-  unfolding performed
-  refused-prefix reason place v = rw (by-plan, v)
-
-  pub completed-prefix : plan s (length storage) (length keys) n p (Prefix i) 0 ≡ Clear
-      → outcome (Completed (prefixGiven (own ps n) i)) storage keys (set ps n (recordLeft (own ps n) i)) buffer ≡ step s storage keys ps n (Prefix i) buffer
-  unfolding performed completed
-  completed-prefix v = rw (by-plan, v)

@@ -3,16 +3,14 @@ use machine::Answer;
 use machine::PrefixInstruction;
 use machine::Processor;
 use machine::Reason;
-use machine::Reply;
 use machine::Request;
+use machine::Served;
 use machine::Settings;
 use machine::Verdict;
 use machine::answers::first_of;
 use machine::answers::refuse;
-use machine::numbers::own;
 use machine::numbers::valid;
 use prefixing::prefix_of;
-ghost use Prim.Native.Nat.{_<_};
 ghost use mathlib.Core.Path.{_≡_};
 ghost use mathlib.Core.List.{List};
 ghost use Prim.Native.Nat.{ℕ};
@@ -54,47 +52,43 @@ fn verdict(
 }
 
 // What a completed prefix instruction gives and leaves.
-fn complete(processors: [Processor; 2], number: usize, instruction: PrefixInstruction) -> Reply
-    requires { ⌜ number < 2 ⌝ }
-    ensures { λ r. ⌜ (r .answer ≡ Answer.Completed (prefixGiven (recordOf processors number) instruction)) × (r .processors ≡ set processors number (recordLeft (recordOf processors number) instruction)) ⌝ }
+fn complete(p: Processor, instruction: PrefixInstruction) -> Served
+    ensures { λ r. ⌜ (r .answer ≡ Answer.Completed (prefixGiven p instruction)) × (r .processor ≡ recordLeft p instruction) ⌝ }
 {
     match instruction {
         PrefixInstruction::SetPrefix { word } => {
-            let mut next = processors;
-            next[number].prefix = prefix_of(word);
-            Reply {
+            let mut next = p;
+            next.prefix = prefix_of(word);
+            Served {
                 answer: Answer::Completed { word: 0 },
-                processors: next,
+                processor: next,
             }
         }
-        PrefixInstruction::StorePrefix => {
-            let p = own(processors, number);
-            Reply {
-                answer: Answer::Completed { word: p.prefix },
-                processors,
-            }
-        }
+        PrefixInstruction::StorePrefix => Served {
+            answer: Answer::Completed { word: p.prefix },
+            processor: p,
+        },
     }
 }
 
-// A prefix instruction for the processor with this number. Of storage and key array it takes the lengths alone.
+// A prefix instruction for the processor with this number and the record p. Of storage and key array it takes the lengths alone.
 pub(crate) fn prefix_instruction(
     settings: Settings,
     storage_length: usize,
     key_length: usize,
-    processors: [Processor; 2],
+    p: Processor,
     number: usize,
     instruction: PrefixInstruction,
-) -> Reply
-    ensures { λ r. ⌜ ((storage keys buffer : List ℕ) → length storage ≡ «storage_length» → length keys ≡ «key_length» → outcome (r .answer) storage keys (r .processors) buffer ≡ step settings storage keys processors number (Request.Prefix instruction) buffer) ⌝ }
+) -> Served
+    ensures { λ r. ⌜ ((storage keys : List ℕ) (ps : List Processor) (buffer : List ℕ) → length storage ≡ «storage_length» → length keys ≡ «key_length» → recordOf ps number ≡ p
+        → outcome (r .answer) storage keys (set ps number (r .processor)) buffer ≡ step settings storage keys ps number (Request.Prefix instruction) buffer) ⌝ }
 {
-    let p = own(processors, number);
     let found = verdict(settings, storage_length, key_length, number, p, instruction);
     match found {
-        Verdict::Clear => complete(processors, number, instruction),
-        Verdict::Stop { reason, place } => Reply {
+        Verdict::Clear => complete(p, instruction),
+        Verdict::Stop { reason, place } => Served {
             answer: Answer::Refused { reason, place },
-            processors,
+            processor: p,
         },
     }
 }

@@ -1,13 +1,11 @@
 -- `key_instruction` gives and leaves what the rules' step does: by the verdict. Where it is clear the keys lie in the array. Assumes nothing.
+use Rattle.machine.proofs.Requests.{own-put-back, refused-request, completed-request, verdict-is-plan}
+use mathlib.Core.Path.{sym}
 use Rattle.machine.specs.Step.{completed}
-use Rattle.machine.proofs.Requests.{refused-request, completed-request, verdict-is-plan}
 use Rattle.key_instruction.proofs.Inside.{keys-inside}
 use borrow.Author.Needs.{needs}
 use Rattle.key_instruction.proofs.key_instruction.Statement.{statement}
 use Rattle.key_instruction.proofs.key_instruction.Tie as tie
-
-own-requires : tie.Need-own-requires
-own-requires c κs = search needs
 
 taken-apart-requires : tie.Need-taken-apart-requires
 taken-apart-requires c κs = search needs
@@ -22,11 +20,7 @@ first-unit-requires : tie.Need-first-unit-requires
 first-unit-requires c κs = search needs
 
 perform-requires : tie.Need-perform-requires
-perform-requires c κs =
-    let chosen = c .before .before .before .before in
-    let apart = chosen .before .before .before .taken-apart .ensures in
-    rw (c .before .before .before .first-unit .ensures, apart)
-    (keys-inside _ _ _ _ _ (chosen .before .before .before .before .before .before .args .instruction) 0 (chosen .before .before .verdict .ensures _ apart) (chosen .enum-told .given .1))
+perform-requires c κs = let apart = c .before .before .before .before .before .before .before .taken-apart .ensures in rw (c .before .before .before .first-unit .ensures, apart) (keys-inside _ _ _ _ _ (c .before .before .before .before .before .before .before .before .before .args .instruction) 0 (c .before .before .before .before .before .before .verdict .ensures _ apart) (c .before .before .before .before .enum-told .given .1))
 
 enum-known-verdict : tie.Need-enum-known-verdict
 enum-known-verdict c = search needs
@@ -36,33 +30,15 @@ same-length c = search needs
 
 returns : tie.Need-returns
 unfolding completed
-returns c = λ storage buffer sized.
-    let chosen = c .before .before .before .before .before .before .before in
-    let apart = chosen .before .before .before .taken-apart .ensures in
-    let record-found = chosen .before .before .before .before .own .ensures in
-    rw (
-      c .before .before .perform .ensures .0,
-      c .before .before .perform .ensures .1 .0,
-      c .before .before .perform .ensures .1 .1,
-      c .before .before .before .before .before .before .first-unit .ensures,
-      apart,
-      ← record-found,
-    )
-    (completed-request _ storage _ _ _ _ buffer record-found
-    (verdict-is-plan _ storage _ _ _ _ buffer tt sized (chosen .before .before .verdict .ensures _ apart)) (chosen .enum-told .given .1))
+returns c = λ storage ps buffer sized own-record. let apart = c .before .before .before .before .before .before .before .before .before .before .taken-apart .ensures in rw (c .before .before .perform .ensures .0, c .before .before .perform .ensures .1 .0, c .before .before .perform .ensures .1 .1, c .before .before .before .before .before .before .first-unit .ensures, apart) (completed-request _ storage _ ps _ _ buffer (sym own-record) (verdict-is-plan _ storage _ _ _ _ buffer tt sized (c .before .before .before .before .before .before .before .before .before .verdict .ensures _ apart)) (c .before .before .before .before .before .before .before .enum-told .given .1))
 
 returns-2 : tie.Need-returns-2
-returns-2 c = λ storage buffer sized.
-    refused-request _ storage _ _ _ _ buffer (c .before .before .before .before .before .own .ensures)
-    (verdict-is-plan _ storage _ _ _ _ buffer tt sized
-    (c .before .before .before .verdict .ensures _ (c .before .before .before .before .taken-apart .ensures)))
-    (c .before .verdict2 .given .1)
+returns-2 c = λ storage ps buffer sized own-record. rw (own-put-back ps _ _ own-record) (refused-request _ storage _ ps _ _ buffer (sym own-record) (verdict-is-plan _ storage _ _ _ _ buffer tt sized (c .before .before .before .verdict .ensures _ (c .before .before .before .before .taken-apart .ensures))) (c .before .verdict2 .given .1))
 
 pub key-instruction-spec : {M : Type 1} → statement M
 key-instruction-spec =
     tie.close
     (tie.spec
-    own-requires
     taken-apart-requires
     verdict-requires
     enum-told

@@ -1,6 +1,5 @@
--- `perform` gives and leaves what the rules say: by the operation. Insert and set put the record back as it was. Assumes nothing.
-use mathlib.Core.Path.{refl, sym}
-use lib.Seq.{set-getD}
+-- `perform` gives and leaves what the rules say: by the operation. Assumes nothing.
+use mathlib.Core.Path.{refl}
 use Rattle.machine.specs.KeyInstructions.{wordGiven, keysLeft, codeLeft}
 use borrow.Author.Needs.{needs}
 use Rattle.key_instruction.proofs.perform.Statement.{statement}
@@ -24,35 +23,26 @@ enum-told c = search needs
 reset-requires : tie.Need-reset-requires
 reset-requires c κs = search needs
 
-mul-next : tie.Need-mul-next
-mul-next c = search needs
-
-way-write-given-next : tie.Need-way-write-given-next
-way-write-given-next c = search needs
-
 same-length : tie.Need-same-length
 same-length c = search needs
 
 returns : tie.Need-returns
 unfolding keysLeft codeLeft
-returns c = rw (c .insert .ensures, c .before .before .before .operation .given .1) (refl, (refl, sym (set-getD _ _ _)))
+returns c = rw (c .insert .ensures, c .before .before .before .operation .given .1) (refl, (refl, refl))
 
 same-length-2 : tie.Need-same-length-2
 same-length-2 c = search needs
 
 returns-2 : tie.Need-returns-2
 unfolding wordGiven codeLeft
-returns-2 c =
-    rw (c .before .before .before .before .before .operation2 .given .1) (refl, (c .before .before .set .ensures, sym (set-getD _ _ _)))
+returns-2 c = rw (c .before .before .before .before .before .operation2 .given .1) (refl, (c .before .before .set .ensures, refl))
 
 same-length-3 : tie.Need-same-length-3
 same-length-3 c = search needs
 
 returns-3 : tie.Need-returns-3
 unfolding wordGiven codeLeft
-returns-3 c =
-    rw (c .before .before .before .before .before .enum-told .given .1)
-    (refl, (c .before .before .before .reset .ensures .0, rw (c .before .before .before .reset .ensures .1)))
+returns-3 c = rw (c .before .before .before .before .enum-told .given .1) (refl, (c .before .before .reset .ensures .0, rw (c .before .before .reset .ensures .1)))
 
 pub perform-spec : {M : Type 1} → statement M
 perform-spec =
@@ -64,8 +54,6 @@ perform-spec =
     set-requires
     enum-told
     reset-requires
-    mul-next
-    way-write-given-next
     same-length
     returns
     same-length-2

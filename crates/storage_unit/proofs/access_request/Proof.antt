@@ -1,4 +1,5 @@
 -- `access_request` is the step of an access: by its kind. Assumes nothing.
+use Rattle.machine.proofs.Requests.{own-put-back}
 use borrow.Author.Needs.{needs}
 use Rattle.storage_unit.proofs.access_request.Statement.{statement}
 use Rattle.storage_unit.proofs.access_request.Tie as tie
@@ -25,7 +26,7 @@ same-length-3 : tie.Need-same-length-3
 same-length-3 c = search needs
 
 returns : tie.Need-returns
-returns c = rw (c .before .before .before .before .before .before .before .before .enum-told .given .1) (c .before .before .before .before .fetch .ensures)
+returns c = λ ps e. rw (c .before .before .before .before .before .before .before .before .enum-told .given .1, own-put-back ps _ _ e) (c .before .before .before .before .fetch .ensures ps e)
 
 same-length-4 : tie.Need-same-length-4
 same-length-4 c = search needs
@@ -37,7 +38,7 @@ same-length-6 : tie.Need-same-length-6
 same-length-6 c = search needs
 
 returns-2 : tie.Need-returns-2
-returns-2 c = rw (c .before .before .before .before .before .before .before .before .enum-told2 .given .1) (c .before .before .before .before .store .ensures)
+returns-2 c = λ ps e. rw (c .before .before .before .before .before .before .before .before .enum-told2 .given .1, own-put-back ps _ _ e) (c .before .before .before .before .store .ensures ps e)
 
 pub access-request-spec : {M : Type 1} → statement M
 access-request-spec =

@@ -1,27 +1,23 @@
--- `request` is the step: by the family of the request. Assumes nothing.
-use mathlib.Core.Path.{refl}
+-- `request` replaces the processor's own record in the pair by what `serve` leaves. Assumes nothing.
+use mathlib.Core.Path.{sym}
+use native.Mathlib.Omega.{arith}
+use lib.Seq.{set-out}
 use Rattle.storage_unit.proofs.Conditions.{with-condition-1}
 use borrow.Author.Needs.{needs}
 use Rattle.storage_unit.proofs.request.Statement.{statement}
 use Rattle.storage_unit.proofs.request.Tie as tie
 
-enum-known-request : tie.Need-enum-known-request
-enum-known-request c = search needs
+own-requires : tie.Need-own-requires
+own-requires c κs = search needs
 
-access-request-requires : tie.Need-access-request-requires
-access-request-requires c κs = search needs
+serve-requires : tie.Need-serve-requires
+serve-requires c κs = search needs
 
-enum-known-request-2 : tie.Need-enum-known-request-2
-enum-known-request-2 c = search needs
+mul-next : tie.Need-mul-next
+mul-next c = search needs
 
-key-instruction-requires : tie.Need-key-instruction-requires
-key-instruction-requires c κs = search needs
-
-enum-known-request-3 : tie.Need-enum-known-request-3
-enum-known-request-3 c = search needs
-
-prefix-instruction-requires : tie.Need-prefix-instruction-requires
-prefix-instruction-requires c κs = search needs
+array-set-from-next : tie.Need-array-set-from-next
+array-set-from-next c = search needs
 
 same-length : tie.Need-same-length
 same-length c = search needs
@@ -33,31 +29,33 @@ same-length-3 : tie.Need-same-length-3
 same-length-3 c = search needs
 
 returns : tie.Need-returns
-returns c = with-condition-1 _ _ _ _ _ _ _ _ _ _ _ _ (rw (c .before .before .before .before .before .before .before .before .before .before .before .request .given .1) (c .before .before .before .before .before .before .access-request .ensures))
+returns c = with-condition-1 _ _ _ _ _ _ _ _ _ _ _ _ (c .before .before .before .before .before .before .before .before .serve .ensures _ (sym (c .before .before .before .before .before .before .before .before .before .before .own .ensures)))
 
 same-length-4 : tie.Need-same-length-4
 same-length-4 c = search needs
 
-returns-2 : tie.Need-returns-2
-returns-2 c = with-condition-1 _ _ _ _ _ _ _ _ _ _ _ _ (rw (c .before .before .before .before .before .request2 .given .1) (c .before .before .key-instruction .ensures _ _ refl))
+same-length-5 : tie.Need-same-length-5
+same-length-5 c = search needs
 
-returns-3 : tie.Need-returns-3
-returns-3 c = with-condition-1 _ _ _ _ _ _ _ _ _ _ _ _ (rw (c .before .before .request3 .given .1) (c .prefix-instruction .ensures _ _ _ refl refl))
+same-length-6 : tie.Need-same-length-6
+same-length-6 c = search needs
+
+returns-2 : tie.Need-returns-2
+returns-2 c = with-condition-1 _ _ _ _ _ _ _ _ _ _ _ _ (rw (set-out (c .before .before .before .before .before .before .before .before .before .before .before .before .before .before .before .before .args .processors) (c .before .before .before .before .before .before .before .before .before .before .before .before .before .before .before .before .args .number) (c .before .before .before .before .before .before .before .before .serve .result .processor) (omega (arith, c .before .before .before .before .before .before .before .before .before .before .before .before .before .before .before .before .good))) at (c .before .before .before .before .before .before .before .before .serve .ensures (c .before .before .before .before .before .before .before .before .before .before .before .before .before .before .before .before .args .processors) (sym (c .before .before .before .before .before .before .before .before .before .before .own .ensures))))
 
 pub request-spec : {M : Type 1} → statement M
 request-spec =
     tie.close
     (tie.spec
-    enum-known-request
-    access-request-requires
-    enum-known-request-2
-    key-instruction-requires
-    enum-known-request-3
-    prefix-instruction-requires
+    own-requires
+    serve-requires
+    mul-next
+    array-set-from-next
     same-length
     same-length-2
     same-length-3
     returns
     same-length-4
-    returns-2
-    returns-3)
+    same-length-5
+    same-length-6
+    returns-2)

@@ -13,16 +13,15 @@ use machine::Processor;
 use machine::Reason;
 use machine::Request;
 use machine::Settings;
-use machine::numbers::own;
 ghost use mathlib.Core.Path.{_≡_};
-ghost use Prim.Native.Nat.{ℕ};
+ghost use Prim.Native.Nat.{ℕ, _<_, _≤_};
 ghost use mathlib.Core.List.{List};
 ghost use lib.ListN.{length};
 ghost use Rattle.machine.specs.Step.{step};
 ghost use Rattle.host.specs.Boundary.{pairOf, left, leftBy, called};
 
-// A request over sixteen bytes of records. A completed one writes its own processor's record.
-fn with_records(
+// A request of processor 0 or 1 over sixteen bytes of records. A completed one writes its own processor's record.
+fn with_record(
     settings: Settings,
     storage: &mut [u8],
     keys: &mut [u8],
@@ -31,16 +30,16 @@ fn with_records(
     asked: Request,
     buffer: &mut [u8],
 ) -> u64
-    requires { ⌜ length (now records) ≡ 16 ⌝ }
+    requires { ⌜ (length (now records) ≡ 16) × (number < 2) ⌝ }
     ensures { λ r. ⌜ left r (now (storage .exit)) (now (keys .exit)) (now (records .exit)) (now (buffer .exit)) ≡ leftBy (now (records .entry)) number (step settings (now (storage .entry)) (now (keys .entry)) (pairOf (now (records .entry))) number asked (now (buffer .entry))) ⌝ }
 {
-    let processors = [record_at(&records[..], 0), record_at(&records[..], 8)];
-    let reply = storage_unit::request(settings, storage, keys, processors, number, asked, buffer);
-    let answer = reply.answer;
-    let after = reply.processors;
+    let p = record_at(&records[..], number * 8);
+    let served = storage_unit::serve(settings, storage, keys, p, number, asked, buffer);
+    let answer = served.answer;
+    let processor = served.processor;
     match answer {
         Answer::Completed { word } => {
-            put_record(records, number * 8, own(after, number));
+            put_record(records, number * 8, processor);
             pack(Answer::Completed { word })
         }
         Answer::Refused { reason, place } => pack(Answer::Refused { reason, place }),
@@ -48,14 +47,14 @@ fn with_records(
 }
 
 // A request of a processor whose number is not 0 or 1: no record is read or written.
-fn without_records(
+fn without_record(
     settings: Settings,
     storage: &mut [u8],
     keys: &mut [u8],
     asked: Request,
     buffer: &mut [u8],
 ) -> u64
-    ensures { λ r. ⌜ ((records : List ℕ) (ps : List Processor) → left r (now (storage .exit)) (now (keys .exit)) records (now (buffer .exit)) ≡ leftBy records 2 (step settings (now (storage .entry)) (now (keys .entry)) ps 2 asked (now (buffer .entry)))) ⌝ }
+    ensures { λ r. ⌜ ((records : List ℕ) (ps : List Processor) (n : ℕ) → 2 ≤ n → left r (now (storage .exit)) (now (keys .exit)) records (now (buffer .exit)) ≡ leftBy records n (step settings (now (storage .entry)) (now (keys .entry)) ps n asked (now (buffer .entry)))) ⌝ }
 {
     let none = Processor {
         key: 0,
@@ -65,8 +64,8 @@ fn without_records(
         prefix: 0,
         code: 0,
     };
-    let reply = storage_unit::request(settings, storage, keys, [none, none], 2, asked, buffer);
-    let answer = reply.answer;
+    let served = storage_unit::serve(settings, storage, keys, none, 2, asked, buffer);
+    let answer = served.answer;
     pack(answer)
 }
 
@@ -96,8 +95,8 @@ pub extern "C" fn storage_unit_request(
     }
     let machine = settings_of(settings);
     let asked = request_of(operation, first, second);
-    if records.len() == 16 {
-        with_records(
+    if (records.len() == 16) & (processor < 2) {
+        with_record(
             machine,
             storage,
             keys,
@@ -107,6 +106,6 @@ pub extern "C" fn storage_unit_request(
             buffer,
         )
     } else {
-        without_records(machine, storage, keys, asked, buffer)
+        without_record(machine, storage, keys, asked, buffer)
     }
 }

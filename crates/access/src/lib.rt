@@ -5,6 +5,7 @@ mod transfer;
 
 use crate::check::verdict;
 use crate::transfer::fetch_bytes;
+use crate::transfer::move_bytes;
 use crate::transfer::record;
 use crate::transfer::store_bytes;
 use machine::AccessKind;
@@ -82,6 +83,41 @@ pub fn fetch(
     match found {
         Verdict::Clear => {
             fetch_bytes(settings, storage, p, start, count, buffer);
+            record(settings, keys, p, kind, start, count);
+            Answer::Completed { word: 0 }
+        }
+        Verdict::Stop { reason, place } => Answer::Refused { reason, place },
+    }
+}
+
+// An access of either kind, with one buffer for both: a store takes its bytes from there, a fetch leaves them there.
+pub fn access(
+    settings: Settings,
+    storage: &mut [u8],
+    keys: &mut [u8],
+    p: Processor,
+    number: usize,
+    kind: AccessKind,
+    start: u32,
+    count: u32,
+    buffer: &mut [u8],
+) -> Answer
+    ensures { λ r. ⌜ ((ps : List Processor) → recordOf ps number ≡ p → outcome r (now (storage .exit)) (now (keys .exit)) ps (now (buffer .exit)) ≡ step settings (now (storage .entry)) (now (keys .entry)) ps number (Request.Access kind start count) (now (buffer .entry))) ⌝ }
+{
+    let found = verdict(
+        settings,
+        storage.len(),
+        &keys[..],
+        number,
+        p,
+        kind,
+        start,
+        count,
+        buffer.len(),
+    );
+    match found {
+        Verdict::Clear => {
+            move_bytes(settings, storage, p, kind, start, count, buffer);
             record(settings, keys, p, kind, start, count);
             Answer::Completed { word: 0 }
         }

@@ -159,3 +159,22 @@ pub(crate) fn fetch_bytes(
         rest,
     );
 }
+
+// The bytes of an access of either kind: a store takes them from the buffer, a fetch leaves them there.
+pub(crate) fn move_bytes(
+    settings: Settings,
+    storage: &mut [u8],
+    p: Processor,
+    kind: AccessKind,
+    start: u32,
+    count: u32,
+    buffer: &mut [u8],
+)
+    requires { ⌜ Passed (length (now storage)) p start count (length (now buffer)) ⌝ }
+    ensures { λ _. ⌜ (now (storage .exit) ≡ storageLeft kind (now (storage .entry)) p start count (now (buffer .entry))) × (now (buffer .exit) ≡ bufferLeft kind (now (storage .entry)) p start count (now (buffer .entry))) ⌝ }
+{
+    match kind {
+        AccessKind::Fetch => fetch_bytes(settings, &storage[..], p, start, count, buffer),
+        AccessKind::Store => store_bytes(settings, storage, p, start, count, &buffer[..]),
+    }
+}

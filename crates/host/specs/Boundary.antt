@@ -57,16 +57,13 @@ recordBytes p =
     ∷ (p .prefix / 16777216 % 256)
     ∷ []
 
--- the pair of records: sixteen bytes, processor 0's first. Of another number of bytes nothing is read: the processor number is then
--- taken for 2, which line 65 refuses
-abbrev pub sixteen : List ℕ → Bool
-sixteen bytes = eqb (length bytes) 16
-
+-- the pair of records, processor 0's first
 abbrev pub pairOf : List ℕ → List Processor
 pairOf bytes = recordAt bytes 0 ∷ recordAt bytes 8 ∷ []
 
+-- where the number is not 0 or 1, or there aren't sixteen bytes of records, it is taken for 2, which line 65 refuses
 abbrev pub processorOf : List ℕ → ℕ → ℕ
-processorOf bytes n = cond (sixteen bytes) n 2
+processorOf bytes n = cond (eqb (length bytes) 16 && ltb n 2) n 2
 
 -- the requests with operands a and b, by the number of the operation
 abbrev pub requests : ℕ → ℕ → List Request

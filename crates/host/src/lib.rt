@@ -14,14 +14,46 @@ use machine::Reason;
 use machine::Request;
 use machine::Settings;
 ghost use mathlib.Core.Path.{_≡_};
-ghost use Prim.Native.Nat.{ℕ, _<_, _≤_};
-ghost use mathlib.Core.List.{List};
+ghost use Prim.Native.Nat.{_<_};
+ghost use mathlib.Core.Bool.{cond, _&&_};
+ghost use lib.Dec.{eqb, ltb};
 ghost use lib.ListN.{length};
+ghost use Rattle.machine.specs.Numbers.{own};
 ghost use Rattle.machine.specs.Step.{step};
 ghost use Rattle.host.specs.Boundary.{pairOf, left, leftBy, called};
 
-// A request of processor 0 or 1 over sixteen bytes of records. A completed one writes its own processor's record.
-fn with_record(
+// The record of the processor with this number in the bytes; where it is not 0 or 1, a record of zeros.
+fn record_of(records: &[u8], number: usize) -> Processor
+    requires { ⌜ (number < 2 → length (now records) ≡ 16) ⌝ }
+    ensures { λ r. ⌜ r ≡ own (pairOf (now (records .entry))) number ⌝ }
+{
+    if number < 2 {
+        record_at(records, number * 8)
+    } else {
+        Processor {
+            key: 0,
+            problem: false,
+            low_protection: false,
+            key_control: false,
+            prefix: 0,
+            code: 0,
+        }
+    }
+}
+
+// The processor's number; 2 where it is not 0 or 1 or there are not sixteen bytes of records.
+fn processor_of(length: usize, processor: u32) -> usize
+    ensures { λ r. ⌜ r ≡ cond (eqb length 16 && ltb processor 2) processor 2 ⌝ }
+{
+    if (length == 16) & (processor < 2) {
+        processor as usize
+    } else {
+        2
+    }
+}
+
+// A request over the bytes of the records. A completed one writes its own processor's record.
+fn serve_bytes(
     settings: Settings,
     storage: &mut [u8],
     keys: &mut [u8],
@@ -30,10 +62,10 @@ fn with_record(
     asked: Request,
     buffer: &mut [u8],
 ) -> u64
-    requires { ⌜ (length (now records) ≡ 16) × (number < 2) ⌝ }
+    requires { ⌜ (number < 2 → length (now records) ≡ 16) ⌝ }
     ensures { λ r. ⌜ left r (now (storage .exit)) (now (keys .exit)) (now (records .exit)) (now (buffer .exit)) ≡ leftBy (now (records .entry)) number (step settings (now (storage .entry)) (now (keys .entry)) (pairOf (now (records .entry))) number asked (now (buffer .entry))) ⌝ }
 {
-    let p = record_at(&records[..], number * 8);
+    let p = record_of(&records[..], number);
     let served = storage_unit::serve(settings, storage, keys, p, number, asked, buffer);
     let answer = served.answer;
     let processor = served.processor;
@@ -44,29 +76,6 @@ fn with_record(
         }
         Answer::Refused { reason, place } => pack(Answer::Refused { reason, place }),
     }
-}
-
-// A request of a processor whose number is not 0 or 1: no record is read or written.
-fn without_record(
-    settings: Settings,
-    storage: &mut [u8],
-    keys: &mut [u8],
-    asked: Request,
-    buffer: &mut [u8],
-) -> u64
-    ensures { λ r. ⌜ ((records : List ℕ) (ps : List Processor) (n : ℕ) → 2 ≤ n → left r (now (storage .exit)) (now (keys .exit)) records (now (buffer .exit)) ≡ leftBy records n (step settings (now (storage .entry)) (now (keys .entry)) ps n asked (now (buffer .entry)))) ⌝ }
-{
-    let none = Processor {
-        key: 0,
-        problem: false,
-        low_protection: false,
-        key_control: false,
-        prefix: 0,
-        code: 0,
-    };
-    let served = storage_unit::serve(settings, storage, keys, none, 2, asked, buffer);
-    let answer = served.answer;
-    pack(answer)
 }
 
 // One request for one processor. `settings`: 1 the 4K facility, 2 the extensions. `records`: sixteen bytes, eight for each processor.
@@ -95,17 +104,6 @@ pub extern "C" fn storage_unit_request(
     }
     let machine = settings_of(settings);
     let asked = request_of(operation, first, second);
-    if (records.len() == 16) & (processor < 2) {
-        with_record(
-            machine,
-            storage,
-            keys,
-            records,
-            processor as usize,
-            asked,
-            buffer,
-        )
-    } else {
-        without_record(machine, storage, keys, asked, buffer)
-    }
+    let number = processor_of(records.len(), processor);
+    serve_bytes(machine, storage, keys, records, number, asked, buffer)
 }

@@ -1,7 +1,6 @@
 // The storage unit: one request for one processor, one answer.
 mod prefix;
 
-use machine::AccessKind;
 use machine::Processor;
 use machine::Reply;
 use machine::Request;
@@ -14,56 +13,6 @@ ghost use lib.ListN.{set};
 ghost use Rattle.machine.specs.Numbers.{own as recordOf};
 ghost use Rattle.machine.specs.Step.{outcome, step};
 ghost use Rattle.machine.specs.Conditions.{Condition1};
-
-// An access: a store takes its bytes from the buffer, a fetch leaves them there. The record stays as it is.
-fn access_request(
-    settings: Settings,
-    storage: &mut [u8],
-    keys: &mut [u8],
-    p: Processor,
-    number: usize,
-    kind: AccessKind,
-    start: u32,
-    count: u32,
-    buffer: &mut [u8],
-) -> Served
-    ensures { λ r. ⌜ ((ps : List Processor) → recordOf ps number ≡ p → outcome (r .answer) (now (storage .exit)) (now (keys .exit)) (set ps number (r .processor)) (now (buffer .exit)) ≡ step settings (now (storage .entry)) (now (keys .entry)) ps number (Request.Access kind start count) (now (buffer .entry))) ⌝ }
-{
-    match kind {
-        AccessKind::Fetch => {
-            let answer = access::fetch(
-                settings,
-                &storage[..],
-                keys,
-                p,
-                number,
-                start,
-                count,
-                buffer,
-            );
-            Served {
-                answer,
-                processor: p,
-            }
-        }
-        AccessKind::Store => {
-            let answer = access::store(
-                settings,
-                storage,
-                keys,
-                p,
-                number,
-                start,
-                count,
-                &buffer[..],
-            );
-            Served {
-                answer,
-                processor: p,
-            }
-        }
-    }
-}
 
 // One request for the processor with this number and the record p, over lent storage, keys and buffer. For every pair in which the
 // processor has this record, what is left is what the step leaves; no other record is looked at.
@@ -80,7 +29,7 @@ pub fn serve(
 {
     match request {
         Request::Access { kind, start, count } => {
-            access_request(
+            let answer = access::access(
                 settings,
                 storage,
                 keys,
@@ -90,7 +39,11 @@ pub fn serve(
                 start,
                 count,
                 buffer,
-            )
+            );
+            Served {
+                answer,
+                processor: p,
+            }
         }
         Request::Key(instruction) => {
             key_instruction::key_instruction(settings, storage.len(), keys, p, number, instruction)

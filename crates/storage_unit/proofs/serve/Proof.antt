@@ -1,5 +1,6 @@
 -- `serve` is the step: by the family of the request. Assumes nothing.
 use mathlib.Core.Path.{refl}
+use Rattle.machine.proofs.Requests.{own-put-back}
 use borrow.Author.Needs.{needs}
 use Rattle.storage_unit.proofs.serve.Statement.{statement}
 use Rattle.storage_unit.proofs.serve.Tie as tie
@@ -7,8 +8,8 @@ use Rattle.storage_unit.proofs.serve.Tie as tie
 enum-known-request : tie.Need-enum-known-request
 enum-known-request c = search needs
 
-access-request-requires : tie.Need-access-request-requires
-access-request-requires c κs = search needs
+access-requires : tie.Need-access-requires
+access-requires c κs = search needs
 
 enum-known-request-2 : tie.Need-enum-known-request-2
 enum-known-request-2 c = search needs
@@ -32,7 +33,7 @@ same-length-3 : tie.Need-same-length-3
 same-length-3 c = search needs
 
 returns : tie.Need-returns
-returns c = λ ps e. rw (c .before .before .before .before .before .before .before .before .before .before .before .request .given .1) (c .before .before .before .before .before .before .access-request .ensures ps e)
+returns c = λ ps e. rw (c .before .before .before .before .before .before .before .before .before .before .before .request .given .1, own-put-back ps _ _ e) (c .before .before .before .before .before .before .access .ensures ps e)
 
 same-length-4 : tie.Need-same-length-4
 same-length-4 c = search needs
@@ -48,7 +49,7 @@ serve-spec =
     tie.close
     (tie.spec
     enum-known-request
-    access-request-requires
+    access-requires
     enum-known-request-2
     key-instruction-requires
     enum-known-request-3

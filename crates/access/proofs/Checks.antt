@@ -1,7 +1,7 @@
 -- The table of an access by unit is the table by byte: of the bytes in one unit the first decides. Assumes nothing.
 use Prim.Native.Nat.{ℕ, _-_, _%_, _<_, _≤_}
 use mathlib.Core.Path.{_≡_, refl}
-use mathlib.Core.Bool.{Bool, true, false, cond, not, _&&_}
+use mathlib.Core.Bool.{Bool, true, false, cond, _&&_}
 use mathlib.Core.List.{List}
 use native.Mathlib.Omega.{arith}
 use native.Mathlib.Decide.{decLt, decLe}
@@ -81,13 +81,6 @@ module _ (s : Settings) (start : ℕ) where
       (λ i h. later 0 i (run-first s start i h))
       (λ i h l. later (left s start) i (run-second s start i h (omega arith)))
 
--- lines 64, 65 and 66, and then lines 5, 67 and 4 by unit
-abbrev byUnit : Settings → ℕ → List ℕ → ℕ → Processor → AccessKind → ℕ → ℕ → ℕ → Verdict
-byUnit s m keys n p kind start count b =
-    firstOf (firstOf (line Configuration (not (lengthsValid s m (length keys)))) (line Record (not (ltb n 2 && recordValid m p))))
-    (firstOf (line Operand (operandInvalid (Access kind start count) b))
-    (linesByUnit s m keys p kind start count))
-
 -- lines 5, 67 and 4 by unit are the lines by byte, where lines 64 to 66 pass
 module _ (s : Settings) (m keyLength : ℕ) (keys : List ℕ) (p : Processor) (kind : AccessKind) (start count : ℕ)
     (lengths : lengthsValid s m keyLength ≡ true) (own : recordValid m p ≡ true) (some : 0 < count) (short : count ≤ 256) where
@@ -122,19 +115,27 @@ module _ (s : Settings) (m keyLength : ℕ) (keys : List ℕ) (p : Processor) (k
             by-two s start count more short Protection (λ i. forbidden kind p (add24 start i) (getD keys (unitOf s (byteAt p start i)) 0)) (permitted-later s start p keys kind),
           )
 
-pub by-unit : (s : Settings) (m : ℕ) (keys : List ℕ) (n : ℕ) (p : Processor) (kind : AccessKind) (start count b : ℕ)
-    → byUnit s m keys n p kind start count b ≡ verdict s m keys n p (Access kind start count) b
-unfolding line firstOf firstLine plan verdict
-by-unit s m keys n p kind start count b =
-    go (lengthsValid s m (length keys)) refl (ltb n 2 && recordValid m p) refl (operandInvalid (Access kind start count) b) refl
-  where
-    go : (x : Bool) → lengthsValid s m (length keys) ≡ x → (y : Bool) → (ltb n 2 && recordValid m p) ≡ y
-        → (z : Bool) → operandInvalid (Access kind start count) b ≡ z
-        → byUnit s m keys n p kind start count b ≡ verdict s m keys n p (Access kind start count) b
-    go true ex true ey false ez =
-        let valid = both (ltb n 2) _ ey .1 in
-        let (some, short, buffered) = operands-passed kind start count b ez in
-        rw (ex, ey, ez, lines-by-unit s m (length keys) keys p kind start count ex valid some short) (simp first-assoc)
-    go true ex true ey true ez = rw (ex, ey, ez)
-    go true ex false ey z ez = rw (ex, ey)
-    go false ex y ey z ez = rw ex
+-- the verdict of the table where the first of lines 64, 65 and 66 that applies is known, and where none does
+module _ (s : Settings) (m : ℕ) (keys : List ℕ) (n : ℕ) (p : Processor) (kind : AccessKind) (start count b : ℕ) where
+  abbrev table : Verdict
+  table = verdict s m keys n p (Access kind start count) b
+
+  pub refused-by-64 : lengthsValid s m (length keys) ≡ false → Stop Configuration 0 ≡ table
+  unfolding line firstOf firstLine plan verdict
+  refused-by-64 ex = rw ex
+
+  pub refused-by-65 : lengthsValid s m (length keys) ≡ true → (ltb n 2 && recordValid m p) ≡ false → Stop Record 0 ≡ table
+  unfolding line firstOf firstLine plan verdict
+  refused-by-65 ex ey = rw (ex, ey)
+
+  pub refused-by-66 : lengthsValid s m (length keys) ≡ true → (ltb n 2 && recordValid m p) ≡ true
+      → operandInvalid (Access kind start count) b ≡ true → Stop Operand 0 ≡ table
+  unfolding line firstOf firstLine plan verdict
+  refused-by-66 ex ey ez = rw (ex, ey, ez)
+
+  pub by-unit : lengthsValid s m (length keys) ≡ true → (ltb n 2 && recordValid m p) ≡ true
+      → operandInvalid (Access kind start count) b ≡ false → linesByUnit s m keys p kind start count ≡ table
+  unfolding line firstOf firstLine plan verdict
+  by-unit ex ey ez =
+      let (some, short, buffered) = operands-passed kind start count b ez in
+      rw (ex, ey, ez, lines-by-unit s m (length keys) keys p kind start count ex (both (ltb n 2) _ ey .1) some short) (simp first-assoc)

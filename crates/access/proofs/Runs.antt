@@ -4,8 +4,7 @@
 use Prim.Native.Nat.{ℕ, _+_, _-_, _%_, _<_, _≤_}
 use mathlib.Core.Path.{_≡_, sym, ap, _∙_}
 use native.Mathlib.Omega.{arith}
-use native.Mathlib.Nat.{mod-lt, div-eq-of-lt, div-eq-of-lt-le, add-zero, le-refl, min-eq-left}
-use native.Mathlib.Decide.{decLe}
+use native.Mathlib.Nat.{mod-lt, div-eq-of-lt, div-eq-of-lt-le, add-zero, le-refl}
 use Rattle.machine.specs.declared.Settings.{Settings}
 use Rattle.machine.specs.declared.Processor.{Processor}
 use Rattle.machine.specs.Numbers.{unitSize, unitOf, add24}

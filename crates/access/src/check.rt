@@ -9,15 +9,14 @@ use machine::Request;
 use machine::Settings;
 use machine::Verdict;
 use machine::answers::first_of;
-use machine::answers::refuse;
-use machine::numbers::valid;
+use machine::numbers::lengths_valid;
+use machine::numbers::record_valid;
 use prefixing::absolute;
 use prefixing::add24;
 use storage_key::forbidden;
 ghost use mathlib.Core.Path.{_≡_};
 ghost use lib.ListN.{getD};
 ghost use Rattle.machine.specs.Numbers.{unitOf};
-ghost use Rattle.machine.specs.Answers.{line};
 ghost use Rattle.machine.specs.Prefixing.{byteAt};
 ghost use Rattle.machine.specs.Table.{operandInvalid, absoluteOutside, verdict as verdictOf};
 ghost use Rattle.access.specs.Runs.{twoTests, linesOfOne, linesOfTwo, linesByUnit};
@@ -35,13 +34,10 @@ fn two_tests(reason: Reason, here: bool, k: u32, there: bool) -> Verdict
 }
 
 // Line 66.
-fn operand(kind: AccessKind, start: u32, count: u32, buffer_length: usize) -> Verdict
-    ensures { λ r. ⌜ r ≡ line Reason.Operand (operandInvalid (Request.Access kind start count) «buffer_length») ⌝ }
+fn operand_invalid(kind: AccessKind, start: u32, count: u32, buffer_length: usize) -> bool
+    ensures { λ r. ⌜ r ≡ operandInvalid (Request.Access kind start count) «buffer_length» ⌝ }
 {
-    refuse(
-        Reason::Operand,
-        (count == 0) | (256 < count) | (16777216 <= start) | (buffer_length < count as usize),
-    )
+    (count == 0) | (256 < count) | (16777216 <= start) | (buffer_length < count as usize)
 }
 
 fn absolute_outside(storage_length: usize, p: Processor, real: u32) -> bool
@@ -71,16 +67,25 @@ fn one_unit(
     ensures { λ r. ⌜ r ≡ linesOfOne settings «storage_length» (now (keys .entry)) p kind start ⌝ }
 {
     let real = add24(start, 0);
-    let outside = refuse(Reason::Addressing, storage_length <= real as usize);
-    let beyond = refuse(
-        Reason::AbsoluteAddress,
-        absolute_outside(storage_length, p, real),
-    );
-    let protected = refuse(
-        Reason::Protection,
-        forbidden(kind, p, real, key_at(settings, keys, p, start, 0)),
-    );
-    first_of(outside, first_of(beyond, protected))
+    if storage_length <= real as usize {
+        return Verdict::Stop {
+            reason: Reason::Addressing,
+            place: 0,
+        };
+    }
+    if absolute_outside(storage_length, p, real) {
+        return Verdict::Stop {
+            reason: Reason::AbsoluteAddress,
+            place: 0,
+        };
+    }
+    if forbidden(kind, p, real, key_at(settings, keys, p, start, 0)) {
+        return Verdict::Stop {
+            reason: Reason::Protection,
+            place: 0,
+        };
+    }
+    Verdict::Clear
 }
 
 // Lines 5, 67 and 4 of an access in two units, byte k being the first in the second unit.
@@ -152,8 +157,26 @@ pub(crate) fn verdict(
 ) -> Verdict
     ensures { λ r. ⌜ r ≡ verdictOf settings «storage_length» (now (keys .entry)) number p (Request.Access kind start count) «buffer_length» ⌝ }
 {
-    let machine = valid(settings, storage_length, keys.len(), number, p);
-    let operands = operand(kind, start, count, buffer_length);
-    let bytes = by_unit(settings, storage_length, keys, p, kind, start, count);
-    first_of(machine, first_of(operands, bytes))
+    let lengths = lengths_valid(settings, storage_length, keys.len());
+    let record = (number < 2) & record_valid(storage_length, p);
+    let invalid = operand_invalid(kind, start, count, buffer_length);
+    if !lengths {
+        return Verdict::Stop {
+            reason: Reason::Configuration,
+            place: 0,
+        };
+    }
+    if !record {
+        return Verdict::Stop {
+            reason: Reason::Record,
+            place: 0,
+        };
+    }
+    if invalid {
+        return Verdict::Stop {
+            reason: Reason::Operand,
+            place: 0,
+        };
+    }
+    by_unit(settings, storage_length, keys, p, kind, start, count)
 }

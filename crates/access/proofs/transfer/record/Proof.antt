@@ -1,5 +1,4 @@
 -- `record` writes the key of one unit or of two, each read before any is written. Assumes nothing.
-use native.Mathlib.Omega.{arith}
 use lib.ListN.{length-set}
 use Rattle.access.proofs.Completed.{one-recorded, two-recorded}
 use borrow.Author.Needs.{needs}

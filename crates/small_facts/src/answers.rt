@@ -1,4 +1,4 @@
-// Number, place and word of an answer.
+// Number, place and word of an answer, as the table of answers has them.
 use machine::Answer;
 use machine::Reason;
 ghost use mathlib.Core.Path.{_≡_};

@@ -20,29 +20,21 @@ fn prefixing() {
 }
 
 fn one_unit() {
-    show(
-        b"P4 number %n place %p key %k\n",
-        fetch(0, 1).psw_key(3).keys(0x88, 0),
-    );
-    show(
-        b"P5 number %n key %k\n",
-        fetch(0, 1).psw_key(3).keys(0x80, 0),
-    );
-    show(
-        b"P6 number %n key %k\n",
-        store(0, 1).psw_key(3).keys(0x80, 0),
-    );
-    show(
-        b"P7 number %n key %k\n",
-        store(0, 1).psw_key(8).keys(0x88, 0),
-    );
+    let fetch_3 = fetch(0, 1).psw_key(3);
+    let store_3 = store(0, 1).psw_key(3);
+    let store_8 = store(0, 1).psw_key(8);
+    show(b"P4 number %n place %p key %k\n", fetch_3.keys(0x88, 0));
+    show(b"P5 number %n key %k\n", fetch_3.keys(0x80, 0));
+    show(b"P6 number %n key %k\n", store_3.keys(0x80, 0));
+    show(b"P7 number %n key %k\n", store_8.keys(0x88, 0));
 }
 
 fn two_units() {
-    let both = store(2047, 2).keys(0x30, 0x50);
-    show(b"P8 number %n place %p ", both.psw_key(3));
-    changes(both.psw_key(3));
-    show(b"P9 keys %k and %s\n", both);
+    let store_0 = store(2047, 2).keys(0x30, 0x50);
+    let store_3 = store_0.psw_key(3);
+    show(b"P8 number %n place %p ", store_3);
+    changes(store_3);
+    show(b"P9 keys %k and %s\n", store_0);
 }
 
 fn key_instructions() {
@@ -74,20 +66,11 @@ fn lengths() {
 }
 
 fn set_key() {
-    show(
-        b"18 second key %s",
-        key(KeyInstruction::Ssk {
-            r1: 0xFF,
-            r2: 0x800,
-        }),
-    );
-    show(
-        b"; number %n\n",
-        key(KeyInstruction::Ssk {
-            r1: 0xFF,
-            r2: 0x801,
-        }),
-    );
+    let r1 = 0xFF;
+    let whole = KeyInstruction::Ssk { r1, r2: 0x800 };
+    let odd = KeyInstruction::Ssk { r1, r2: 0x801 };
+    show(b"18 second key %s", key(whole));
+    show(b"; number %n\n", key(odd));
 }
 
 fn main() {

@@ -1,8 +1,8 @@
 -- The seven bits of a key, put together, are the byte without bit 7. Each bit is what is left of one halving. Assumes nothing.
-use Prim.Native.Nat.{ℕ, _+_, _-_, _*_, _/_, _%_}
+use Prim.Native.Nat.{ℕ, _+_, _-_, _*_, _/_, _%_, _<_}
 use mathlib.Core.Path.{_≡_}
 use native.Mathlib.Omega.{arith}
-use Rattle.machine.specs.Key.{keyOf}
+use Rattle.machine.specs.Key.{accessControl, fetchProtection, keyOf}
 
 eighth : (k : ℕ) → k / 8 ≡ k / 16 * 2 + k / 8 % 2
 eighth k = omega arith
@@ -22,3 +22,7 @@ low k = omega arith
 pub seven-bits : (k : ℕ) → keyOf k ≡ k % 256 / 2 * 2
 unfolding keyOf
 seven-bits k = omega (arith, eighth k, quarter k, half k, whole k, low k)
+
+-- access control and fetch protection of a byte
+pub upper-bits : (k : ℕ) → k < 256 → k / 8 * 8 ≡ accessControl k * 16 + fetchProtection k * 8
+upper-bits k h = omega (arith, eighth k)

@@ -1,5 +1,6 @@
 -- `joined` is the rules' join of two keys, in fewer operations. Assumes nothing.
 use native.Mathlib.Omega.{arith}
+use Rattle.storage_key.proofs.Bits.{upper-bits}
 use Rattle.machine.specs.Key.{joined}
 use borrow.Author.Needs.{needs}
 use Rattle.storage_key.proofs.joined.Statement.{statement}
@@ -28,7 +29,7 @@ add-result-2 c = search needs
 
 returns : tie.Need-returns
 unfolding joined
-returns c = rw (c .either2 .ensures, c .before .either .ensures) (omega arith)
+returns c = rw (c .either2 .ensures, c .before .either .ensures, upper-bits (c .before .before .args .low) (omega arith))
 
 pub joined-spec : {M : Type 1} → statement M
 joined-spec =

@@ -70,6 +70,33 @@ static void sizes(void)
     CHECK(storage_unit_key_count(STORAGE_UNIT_4K, STORAGE_UNIT_STORAGE_MULTIPLE) == 1);
 }
 
+/* Which lengths of storage are right. */
+static void lengths(void)
+{
+    static uint8_t large[STORAGE_UNIT_STORAGE_MAXIMUM + STORAGE_UNIT_STORAGE_MULTIPLE];
+    static uint8_t large_keys[sizeof large / STORAGE_UNIT_KEY_UNIT_2K];
+    static const struct {
+        size_t length;
+        uint32_t number;
+    } cases[] = {
+        {0, STORAGE_UNIT_NUMBER_CONFIGURATION},
+        {STORAGE_UNIT_STORAGE_MULTIPLE - 1, STORAGE_UNIT_NUMBER_CONFIGURATION},
+        {STORAGE_UNIT_STORAGE_MULTIPLE, STORAGE_UNIT_NUMBER_COMPLETED},
+        {STORAGE_UNIT_STORAGE_MAXIMUM, STORAGE_UNIT_NUMBER_COMPLETED},
+        {STORAGE_UNIT_STORAGE_MAXIMUM + STORAGE_UNIT_STORAGE_MULTIPLE, STORAGE_UNIT_NUMBER_CONFIGURATION},
+    };
+    size_t i;
+
+    start();
+    for (i = 0; i < sizeof cases / sizeof cases[0]; i++) {
+        uint64_t answer = storage_unit_request(0, large, cases[i].length, large_keys,
+                                               storage_unit_key_count(0, cases[i].length), records,
+                                               sizeof records, 0, STORAGE_UNIT_STORE_PREFIX, 0, 0,
+                                               NULL, 0);
+        CHECK(storage_unit_number(answer) == cases[i].number);
+    }
+}
+
 static void record_fields(void)
 {
     static const uint8_t expected[STORAGE_UNIT_RECORDS_LENGTH]
@@ -126,8 +153,9 @@ static void numbers(void)
     CHECK(storage_unit_number(answer) == STORAGE_UNIT_NUMBER_ADDRESSING && storage_unit_place(answer) == 3);
 
     storage_unit_put_psw_key(records, 3);
-    keys[0] = 0x30;
+    keys[0] = 0x3F & STORAGE_UNIT_KEY_ACCESS_CONTROL;
     keys[1] = 0x40 | STORAGE_UNIT_KEY_FETCH_PROTECTION;
+    CHECK(keys[0] == 0x30 && keys[1] == 0x48);
     answer = request(0, STORAGE_UNIT_FETCH, 2046, 4);
     CHECK(storage_unit_number(answer) == STORAGE_UNIT_NUMBER_PROTECTION && storage_unit_place(answer) == 2);
 
@@ -151,6 +179,7 @@ int main(void)
 {
     answers();
     sizes();
+    lengths();
     record_fields();
     operations();
     numbers();

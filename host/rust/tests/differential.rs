@@ -5,8 +5,7 @@
 //! are compared: the answer, the whole buffer, both records in every field, and
 //! every key. Of the storage, the neighbourhoods of the addresses that the request
 //! names are compared after each request, with and without prefixing; the whole
-//! storage is compared after every few thousand requests and at the end of each
-//! machine.
+//! storage is compared from time to time and at the end of each machine.
 //!
 //! `STORAGE_UNIT_REQUESTS` sets the number of requests for each implementation,
 //! `STORAGE_UNIT_SEED` the seed of the first machine. Each further machine has the
@@ -27,7 +26,7 @@ use storage_unit::{
 
 use support::*;
 
-const DEFAULT_REQUESTS: u64 = 2_000_000;
+const DEFAULT_REQUESTS: u64 = 1_000_000;
 const DEFAULT_SEED: u64 = 3_700_000;
 
 /// The counts below are asserted from this number of requests on.

@@ -2,11 +2,11 @@
  * storage_unit.h: the storage unit of an emulated System/370, for programs in C (C99) and C++.
  *
  * The program owns the storage, its storage keys and the records of two processors, and lends them
- * to each call of storage_unit_request. A call takes one request of one processor (fetch, store, one
- * of the six key instructions, SET PREFIX or STORE PREFIX) and gives one answer.
+ * to each call of storage_unit_request. A call takes one request of one processor (fetch, store,
+ * one of the six key instructions, SET PREFIX or STORE PREFIX) and gives one answer.
  *
  * The function is in the static library libhost.a, for x86-64 Linux, which needs no other library.
- * What it does with all numbers and bytes is defined in crates/host/specs/Boundary.antt, and proved.
+ * What a call answers and leaves is defined in crates/host/specs/Boundary.antt, and proved.
  *
  * "Bit 0" of a register is the leftmost of 32, as in the manual, GA22-7000. The constants below are
  * plain values, to be used with & and |.
@@ -49,18 +49,19 @@ extern "C" {
  * ---- Numbers of answers, in the order in which they are tested: the first that applies is given.
  * Those below 64 are the manual's program interruption codes.
  *
- * configuration      another bit of the settings is on; the length of storage or of the keys is wrong
+ * configuration      another bit of the settings is on; the length of storage or keys is wrong
  * record             there is no such processor; the records are not 16 bytes; the processor's own
  *                    record is wrong
- * operand            there is no such operation; an access is of 0 bytes, of more than 256 or of more
- *                    than the buffer has; the address of an access or of RRB is 16777216 or more
+ * operand            there is no such operation; an access is of 0 bytes, of more than 256 or of
+ *                    more than the buffer has; the address of an access or of RRB is 16777216 or
+ *                    more
  * operation          ISKE, SSKE or RRBE without the extensions
  * privileged         a key or prefix instruction in problem state
  * special operation  ISK, SSK or RRB with the 4K facility and CR0 bit 7 zero
  * specification      ISK or SSK with any of bits 28-31 of R2 on
  * addressing         a real address, or the block that SET PREFIX would install, is outside storage
- * absolute address   a real address is inside storage and its absolute address outside; never given,
- *                    since a prefix outside storage is a wrong record
+ * absolute address   a real address is inside storage and its absolute address outside; never
+ *                    given, since a prefix outside storage is a wrong record
  * protection         a byte of an access is forbidden
  * completed          none of these
  */
@@ -121,35 +122,36 @@ extern "C" {
  * storage_unit_request: one request of one processor.
  *
  * settings   STORAGE_UNIT_4K, STORAGE_UNIT_EXTENSIONS, both or 0. Another bit: 64, before all else.
- * storage    The bytes of absolute addresses 0 to storage_length - 1. The length is a multiple of 4096
- *            from 4096 to 16777216. Another length: 64.
+ * storage    The bytes of absolute addresses 0 to storage_length - 1. The length is a multiple of
+ *            4096 from 4096 to 16777216. Another length: 64.
  * keys       One byte for each unit of absolute addresses, storage_unit_key_count(settings,
  *            storage_length) bytes in all. Another length: 64.
  * records    The records of both processors, 16 bytes. Another length: 65.
- * processor  The number of the processor that asks, 0 or 1. Another number: 65. A wrong value in its
- *            own record, or a reserved bit that is on: 65. The other record may hold anything.
+ * processor  The number of the processor that asks, 0 or 1. Another number: 65. A wrong value in
+ *            its own record, or a reserved bit that is on: 65. The other record may hold anything.
  * operation  STORAGE_UNIT_FETCH to STORAGE_UNIT_STORE_PREFIX. Another number: 66.
  * first      The operands, as listed at the operations. An access goes on at address 0 after
  * second     16777215.
- * buffer     A fetch writes its first bytes, a store reads them, up to the length of the access, and
- *            the rest stays as it is. A shorter buffer: 66. Other operations do not use it, and its
- *            length may be 0.
+ * buffer     A fetch writes its first bytes, a store reads them, up to the length of the access,
+ *            and the rest stays as it is. A shorter buffer: 66. Other operations do not use it,
+ *            and its length may be 0.
  *
  * Returns number, place and word in one value, for storage_unit_number, storage_unit_place and
- * storage_unit_word to take apart. The value is 0 only where the word is 0 too: test the number.
+ * storage_unit_word to take apart. Test the number, not the value: a completed request with a word
+ * is not 0 as a whole.
  *
- * With any number but STORAGE_UNIT_NUMBER_COMPLETED, no byte of storage, keys, records and buffer has
- * changed. When completed, a fetch or store has also set the reference bit, a store the change bit, in
- * the key of each unit touched. The only changes in records are the prefix by SET PREFIX and the
- * condition code by RRB and RRBE, in the record of the processor that asked.
+ * With any number but STORAGE_UNIT_NUMBER_COMPLETED, no byte of storage, keys, records and buffer
+ * has changed. When completed, a fetch or store has also set the reference bit, a store the change
+ * bit, in the key of each unit touched. The only changes in records are the prefix by SET PREFIX and
+ * the condition code by RRB and RRBE, in the record of the processor that asked.
  *
  * The caller must see to this:
- * - Each pointer is valid for reads and writes of as many bytes as the length after it, whatever the
- *   operation. Where the length is 0, the pointer is not used and may be null.
+ * - Each pointer is valid for reads and writes of as many bytes as the length after it, whatever
+ *   the operation. Where the length is 0, the pointer is not used and may be null.
  * - Storage, keys, records and buffer do not overlap. In particular, no buffer lies in the storage.
- * - Nothing else reads or writes these bytes during the call. The function keeps no state of its own,
- *   so threads that lend different bytes may call it at the same time; calls for two processors of
- *   one storage take turns.
+ * - Nothing else reads or writes these bytes during the call. The function keeps no state of its
+ *   own, so threads that lend different bytes may call it at the same time; calls for two
+ *   processors of one storage take turns.
  */
 uint64_t storage_unit_request(uint32_t settings,
                               uint8_t *storage, size_t storage_length,

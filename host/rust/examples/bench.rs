@@ -181,7 +181,7 @@ fn raw_batch<R: RawUnit>(machine: &mut Machine, case: &Case, count: usize) -> f6
                 &mut machine.buffer,
             )
         };
-        wrong += usize::from((black_box(packed) >> 48) as u16 != case.number.code());
+        wrong += usize::from(boundary::packed_number(black_box(packed)) != case.number.code());
     }
     let elapsed = start.elapsed();
     machine.processors = boundary::decode_processors(&records);

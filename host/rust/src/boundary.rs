@@ -229,10 +229,16 @@ pub const fn encode_answer(answer: Answer) -> u64 {
     (answer.word as u64) | ((answer.place as u64) << 32) | ((answer.number.code() as u64) << 48)
 }
 
+/// The number of an answer in its packed form.
+#[inline]
+pub const fn packed_number(packed: u64) -> u16 {
+    (packed >> 48) as u16
+}
+
 /// The answer from its packed form, or `None` if its number is unknown.
 #[inline]
 pub const fn decode_answer(packed: u64) -> Option<Answer> {
-    match Number::from_code((packed >> 48) as u16) {
+    match Number::from_code(packed_number(packed)) {
         Some(number) => Some(Answer {
             number,
             place: (packed >> 32) as u16,

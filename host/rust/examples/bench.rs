@@ -15,10 +15,8 @@ use std::time::Instant;
 
 use storage_unit::boundary::{self, RawRequest};
 use storage_unit::plain::{storage_unit_request_plain, Plain, PlainBehindBoundary};
-use storage_unit::{
-    KeyInstruction, Number, PrefixInstruction, Processor, Request, Settings, Unit,
-    PROVED_UNIT_LINKED,
-};
+use storage_unit::proved::{storage_unit_request, Proved};
+use storage_unit::{KeyInstruction, Number, PrefixInstruction, Processor, Request, Settings, Unit};
 
 const STORAGE_LENGTH: usize = 16_777_216;
 const KEY_UNIT: u32 = 2048;
@@ -156,9 +154,8 @@ impl RawUnit for PlainBehindBoundary {
     const FUNCTION: RawRequest = storage_unit_request_plain;
 }
 
-#[cfg(proved_unit)]
-impl RawUnit for storage_unit::proved::Proved {
-    const FUNCTION: RawRequest = storage_unit::proved::storage_unit_request;
+impl RawUnit for Proved {
+    const FUNCTION: RawRequest = storage_unit_request;
 }
 
 /// Makes `count` requests by the C function alone and gives the nanoseconds for each.
@@ -171,27 +168,20 @@ fn raw_batch<R: RawUnit>(machine: &mut Machine, case: &Case, count: usize) -> f6
     let mut wrong = 0_usize;
     let start = Instant::now();
     for request in requests.iter().cycle().take(count) {
-        let (operation, first, second) = *black_box(request);
-        // SAFETY: the pointers and lengths are those of separate arrays that live
-        // longer than the call.
+        // SAFETY: the function is that of this crate or of the static library.
         let packed = unsafe {
-            R::FUNCTION(
+            boundary::call_raw(
+                R::FUNCTION,
                 settings,
-                machine.storage.as_mut_ptr(),
-                machine.storage.len(),
-                machine.keys.as_mut_ptr(),
-                machine.keys.len(),
-                records.as_mut_ptr(),
-                records.len(),
+                &mut machine.storage,
+                &mut machine.keys,
+                &mut records,
                 black_box(0),
-                operation,
-                first,
-                second,
-                machine.buffer.as_mut_ptr(),
-                machine.buffer.len(),
+                *black_box(request),
+                &mut machine.buffer,
             )
         };
-        wrong += usize::from((black_box(packed) >> 48) as u16 != case.number.code());
+        wrong += usize::from(boundary::packed_number(black_box(packed)) != case.number.code());
     }
     let elapsed = start.elapsed();
     machine.processors = boundary::decode_processors(&records);
@@ -240,19 +230,6 @@ impl Contender {
     }
 }
 
-/// The proved unit by its C function alone and through the wrapper, if the build found
-/// the static library.
-#[cfg(proved_unit)]
-fn proved() -> Option<[Contender; 2]> {
-    use storage_unit::proved::Proved;
-    Some([Contender::raw::<Proved>(), Contender::typed::<Proved>()])
-}
-
-#[cfg(not(proved_unit))]
-fn proved() -> Option<[Contender; 2]> {
-    None
-}
-
 fn number_from(variable: &str, default: usize) -> usize {
     match env::var(variable) {
         Ok(text) => match text.parse() {
@@ -266,7 +243,7 @@ fn number_from(variable: &str, default: usize) -> usize {
 fn main() {
     let rounds = number_from("STORAGE_UNIT_ROUNDS", DEFAULT_ROUNDS);
     let count = number_from("STORAGE_UNIT_BATCH", DEFAULT_BATCH);
-    let mut proved = proved();
+    let mut proved = [Contender::raw::<Proved>(), Contender::typed::<Proved>()];
     let mut plain = [
         Contender::raw::<PlainBehindBoundary>(),
         Contender::typed::<PlainBehindBoundary>(),
@@ -278,9 +255,6 @@ fn main() {
     println!("Storage 16 MiB, 2K units, extensions present, prefix 65,536 before SET PREFIX.");
     println!("The requests of a batch go round {VARIANTS} units; storage, keys and buffer are");
     println!("in the cache. One buffer of 256 bytes serves all requests and is not cleared.");
-    if !PROVED_UNIT_LINKED {
-        println!("The static library of the proved unit is missing; its columns are empty.");
-    }
     println!();
     println!(
         "{:36}{:>26}  {:>26}  {:>8}",
@@ -293,7 +267,6 @@ fn main() {
     for case in cases() {
         let mut contenders: Vec<&mut Contender> = proved
             .iter_mut()
-            .flatten()
             .chain(&mut plain)
             .chain([&mut direct])
             .collect();
@@ -309,16 +282,10 @@ fn main() {
         }
 
         print!("{:36}", case.name);
-        for way in 0..2 {
-            let plain_time = plain[way].median();
-            match &mut proved {
-                Some(proved) => {
-                    let time = proved[way].median();
-                    let ratio = time / plain_time;
-                    print!("{time:>9.2}{plain_time:>9.2}{ratio:>8.2}  ");
-                }
-                None => print!("{:>9}{plain_time:>9.2}{:>8}  ", "-", "-"),
-            }
+        for (proved, plain) in proved.iter_mut().zip(&mut plain) {
+            let (proved, plain) = (proved.median(), plain.median());
+            let ratio = proved / plain;
+            print!("{proved:>9.2}{plain:>9.2}{ratio:>8.2}  ");
         }
         println!("{:>8.2}", direct.median());
     }

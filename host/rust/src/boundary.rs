@@ -1,11 +1,8 @@
-//! The C function of the storage unit and the encoding of its parameters.
+//! The C function of the storage unit: its type, and its parameters and result as numbers
+//! and bytes.
 //!
-//! | Parameter | Encoding |
-//! |---|---|
-//! | settings | bit 0 from the right: 4K facility, bit 1: extensions |
-//! | processors | two records of 8 bytes, see [`encode_processor`] |
-//! | operation, first, second | see [`encode_request`] |
-//! | result | word in the low 32 bits, then 16 bits of place, then 16 bits of number |
+//! The numbers and bytes are those of `host/include/storage_unit.h`, which says what each
+//! parameter is.
 
 use crate::{
     AccessKind, Answer, KeyInstruction, Number, PrefixInstruction, Processor, Request, Settings,
@@ -13,34 +10,59 @@ use crate::{
 
 /// The type of the C function.
 ///
-/// The parameters are: settings; storage and its length; keys and their length;
-/// processor records and their length; processor number; operation; first and
-/// second operand; buffer and its length. The function reads and writes only the
-/// bytes it is given. Storage, keys, records and buffer must not overlap.
+/// It gives an answer whatever the numbers and the bytes are, and reads and writes only
+/// the bytes it is given.
+///
+/// # Safety
+///
+/// Each pointer must be valid for reads and writes of as many bytes as the length that
+/// follows it, and these ranges must not overlap. Where the length is 0, the pointer is
+/// not used and can be null.
 pub type RawRequest = unsafe extern "C" fn(
     settings: u32,
     storage: *mut u8,
-    storage_len: usize,
+    storage_length: usize,
     keys: *mut u8,
-    keys_len: usize,
-    processors: *mut u8,
-    processors_len: usize,
+    keys_length: usize,
+    records: *mut u8,
+    records_length: usize,
     processor: u32,
     operation: u32,
     first: u32,
     second: u32,
     buffer: *mut u8,
-    buffer_len: usize,
+    buffer_length: usize,
 ) -> u64;
 
-/// The number of bytes of an encoded processor record.
+/// Setting: the 4K facility is present.
+pub const FOUR_K: u32 = 1;
+/// Setting: the key-instruction extensions are present.
+pub const EXTENSIONS: u32 = 2;
+
+/// The number of bytes of a processor's record.
 pub const RECORD_LENGTH: usize = 8;
+/// The number of bytes of the two records.
+pub const RECORDS_LENGTH: usize = 2 * RECORD_LENGTH;
 
-/// The number of bytes of the two encoded processor records.
-pub const PROCESSORS_LENGTH: usize = 2 * RECORD_LENGTH;
+/// The byte of a record with the PSW key.
+pub const PSW_KEY_AT: usize = 0;
+/// The byte of a record with the controls.
+pub const CONTROLS_AT: usize = 1;
+/// The byte of a record with the condition code.
+pub const CODE_AT: usize = 2;
+/// The byte of a record that is zero.
+pub const RESERVED_AT: usize = 3;
+/// The first of the four bytes of a record with the prefix, the least significant first.
+pub const PREFIX_AT: usize = 4;
 
-const FOUR_K: u32 = 1;
-const EXTENSIONS: u32 = 2;
+/// Control: problem state.
+pub const PROBLEM: u8 = 1;
+/// Control: bit 3 of control register 0, low-address protection.
+pub const LOW_PROTECTION: u8 = 2;
+/// Control: bit 7 of control register 0, storage-key-exception control.
+pub const KEY_CONTROL: u8 = 4;
+/// The controls that must be zero.
+pub const RESERVED_CONTROLS: u8 = !(PROBLEM | LOW_PROTECTION | KEY_CONTROL);
 
 /// Operation number of a fetch.
 pub const FETCH: u32 = 0;
@@ -69,53 +91,62 @@ pub const fn encode_settings(settings: Settings) -> u32 {
     (if settings.four_k { FOUR_K } else { 0 }) | (if settings.extensions { EXTENSIONS } else { 0 })
 }
 
-/// The settings from their number. Unused bits must be zero.
+/// The settings from their number, or `None` if another bit is on.
 #[inline]
-pub const fn decode_settings(settings: u32) -> Settings {
-    debug_assert!(settings & !(FOUR_K | EXTENSIONS) == 0);
-    Settings {
+pub const fn decode_settings(settings: u32) -> Option<Settings> {
+    if settings & !(FOUR_K | EXTENSIONS) != 0 {
+        return None;
+    }
+    Some(Settings {
         four_k: settings & FOUR_K != 0,
         extensions: settings & EXTENSIONS != 0,
-    }
+    })
+}
+
+/// A byte of a record at its place in the number that the eight bytes make, the least
+/// significant first. Records are put together and taken apart as one number, since that
+/// takes less time than one byte after another.
+const fn at(place: usize, byte: u8) -> u64 {
+    (byte as u64) << (8 * place)
 }
 
 /// A record as bytes.
-///
-/// A record has 8 bytes: PSW key; flags (from the right bit 0 problem state, bit 1
-/// low-address protection, bit 2 storage-key-exception control, the others zero);
-/// condition code; zero; and four bytes of prefix, least significant first.
 #[inline]
 pub const fn encode_processor(processor: &Processor) -> [u8; RECORD_LENGTH] {
-    // The record is made as one number, since that takes less time than one byte after
-    // another.
-    let record = processor.key as u64
-        | (processor.problem as u64) << 8
-        | (processor.low_protection as u64) << 9
-        | (processor.key_control as u64) << 10
-        | (processor.code as u64) << 16
-        | (processor.prefix as u64) << 32;
+    let controls = (processor.problem as u8 * PROBLEM)
+        | (processor.low_protection as u8 * LOW_PROTECTION)
+        | (processor.key_control as u8 * KEY_CONTROL);
+    let record = at(PSW_KEY_AT, processor.key)
+        | at(CONTROLS_AT, controls)
+        | at(CODE_AT, processor.code)
+        | (processor.prefix as u64) << (8 * PREFIX_AT);
     record.to_le_bytes()
 }
 
-/// A record from its bytes. Unused flags and the reserved byte must be zero.
+/// A record from its bytes. Where a reserved bit is on, the PSW key is taken for 255, so
+/// that a request for this processor is refused with [`Number::Record`].
 #[inline]
 pub const fn decode_processor(bytes: &[u8; RECORD_LENGTH]) -> Processor {
     let record = u64::from_le_bytes(*bytes);
-    debug_assert!(record & 0x0000_0000_FF00_F800 == 0);
+    let reserved = at(CONTROLS_AT, RESERVED_CONTROLS) | at(RESERVED_AT, 0xFF);
     Processor {
-        key: record as u8,
-        problem: record & 1 << 8 != 0,
-        low_protection: record & 1 << 9 != 0,
-        key_control: record & 1 << 10 != 0,
-        prefix: (record >> 32) as u32,
-        code: (record >> 16) as u8,
+        key: if record & reserved == 0 {
+            (record >> (8 * PSW_KEY_AT)) as u8
+        } else {
+            255
+        },
+        problem: record & at(CONTROLS_AT, PROBLEM) != 0,
+        low_protection: record & at(CONTROLS_AT, LOW_PROTECTION) != 0,
+        key_control: record & at(CONTROLS_AT, KEY_CONTROL) != 0,
+        prefix: (record >> (8 * PREFIX_AT)) as u32,
+        code: (record >> (8 * CODE_AT)) as u8,
     }
 }
 
 /// The two records as bytes, that of processor 0 first.
 #[inline]
-pub fn encode_processors(processors: &[Processor; 2]) -> [u8; PROCESSORS_LENGTH] {
-    let mut bytes = [0; PROCESSORS_LENGTH];
+pub fn encode_processors(processors: &[Processor; 2]) -> [u8; RECORDS_LENGTH] {
+    let mut bytes = [0; RECORDS_LENGTH];
     let (first, second) = bytes.split_at_mut(RECORD_LENGTH);
     first.copy_from_slice(&encode_processor(&processors[0]));
     second.copy_from_slice(&encode_processor(&processors[1]));
@@ -124,7 +155,7 @@ pub fn encode_processors(processors: &[Processor; 2]) -> [u8; PROCESSORS_LENGTH]
 
 /// The two records from their bytes, that of processor 0 first.
 #[inline]
-pub fn decode_processors(bytes: &[u8; PROCESSORS_LENGTH]) -> [Processor; 2] {
+pub fn decode_processors(bytes: &[u8; RECORDS_LENGTH]) -> [Processor; 2] {
     [0, RECORD_LENGTH].map(|start| {
         let mut record = [0; RECORD_LENGTH];
         record.copy_from_slice(&bytes[start..start + RECORD_LENGTH]);
@@ -132,12 +163,8 @@ pub fn decode_processors(bytes: &[u8; PROCESSORS_LENGTH]) -> [Processor; 2] {
     })
 }
 
-/// Operation number, first and second operand of a request.
-///
-/// Accesses have the real address and the length as operands, ISK, SSK, ISKE and
-/// SSKE have R1 and R2, RRB has its address and RRBE has R2 as the second
-/// operand, SET PREFIX has its word as the first. Operands that are not used are
-/// zero here and ignored by the function.
+/// Operation number, first and second operand of a request. Operands that are not used
+/// are zero here and ignored by the function.
 #[inline]
 pub const fn encode_request(request: &Request) -> (u32, u32, u32) {
     match *request {
@@ -164,11 +191,11 @@ pub const fn encode_request(request: &Request) -> (u32, u32, u32) {
     }
 }
 
-/// The request from operation number and operands, or `None` if there is no such
-/// operation.
+/// The request from operation number and operands. A number that no operation has is
+/// taken for a fetch of length 0, which is refused with [`Number::Operand`].
 #[inline]
-pub const fn decode_request(operation: u32, first: u32, second: u32) -> Option<Request> {
-    Some(match operation {
+pub const fn decode_request(operation: u32, first: u32, second: u32) -> Request {
+    match operation {
         FETCH => Request::fetch(first, second),
         STORE => Request::store(first, second),
         ISK => Request::Key(KeyInstruction::Isk {
@@ -191,8 +218,8 @@ pub const fn decode_request(operation: u32, first: u32, second: u32) -> Option<R
         RRBE => Request::Key(KeyInstruction::Rrbe { r2: second }),
         SET_PREFIX => Request::Prefix(PrefixInstruction::SetPrefix { word: first }),
         STORE_PREFIX => Request::Prefix(PrefixInstruction::StorePrefix),
-        _ => return None,
-    })
+        _ => Request::fetch(0, 0),
+    }
 }
 
 /// The answer as one number: word in the low 32 bits, place in the next 16,
@@ -202,16 +229,62 @@ pub const fn encode_answer(answer: Answer) -> u64 {
     (answer.word as u64) | ((answer.place as u64) << 32) | ((answer.number.code() as u64) << 48)
 }
 
+/// The number of an answer in its packed form.
+#[inline]
+pub const fn packed_number(packed: u64) -> u16 {
+    (packed >> 48) as u16
+}
+
 /// The answer from its packed form, or `None` if its number is unknown.
 #[inline]
 pub const fn decode_answer(packed: u64) -> Option<Answer> {
-    match Number::from_code((packed >> 48) as u16) {
+    match Number::from_code(packed_number(packed)) {
         Some(number) => Some(Answer {
             number,
             place: (packed >> 32) as u16,
             word: packed as u32,
         }),
         None => None,
+    }
+}
+
+/// Calls a C function with slices: settings, storage, keys, records, the processor's
+/// number, operation with first and second operand, buffer.
+///
+/// # Safety
+///
+/// `raw` must be a function as [`RawRequest`] describes it.
+#[inline]
+#[allow(clippy::too_many_arguments)]
+pub unsafe fn call_raw(
+    raw: RawRequest,
+    settings: u32,
+    storage: &mut [u8],
+    keys: &mut [u8],
+    records: &mut [u8],
+    processor: u32,
+    (operation, first, second): (u32, u32, u32),
+    buffer: &mut [u8],
+) -> u64 {
+    // SAFETY: every pointer comes with the length of the exclusive slice it was
+    // taken from, so the bytes are there, may be written and do not overlap. The
+    // caller guarantees what the function does.
+    unsafe {
+        raw(
+            settings,
+            storage.as_mut_ptr(),
+            storage.len(),
+            keys.as_mut_ptr(),
+            keys.len(),
+            records.as_mut_ptr(),
+            records.len(),
+            processor,
+            operation,
+            first,
+            second,
+            buffer.as_mut_ptr(),
+            buffer.len(),
+        )
     }
 }
 
@@ -223,8 +296,7 @@ pub const fn decode_answer(packed: u64) -> Option<Answer> {
 ///
 /// # Safety
 ///
-/// `raw` must be a function as [`RawRequest`] describes it: it may read and write
-/// the bytes it is given for the duration of the call, and nothing else.
+/// `raw` must be a function as [`RawRequest`] describes it.
 #[inline]
 #[allow(clippy::too_many_arguments)]
 pub unsafe fn call(
@@ -239,25 +311,17 @@ pub unsafe fn call(
 ) -> Answer {
     let sent = encode_processors(processors);
     let mut records = sent;
-    let (operation, first, second) = encode_request(request);
-    // SAFETY: every pointer comes with the length of the exclusive slice it was
-    // taken from, so the bytes are there, may be written and do not overlap. The
-    // caller guarantees what the function does.
+    // SAFETY: the caller guarantees what the function does.
     let packed = unsafe {
-        raw(
+        call_raw(
+            raw,
             encode_settings(settings),
-            storage.as_mut_ptr(),
-            storage.len(),
-            keys.as_mut_ptr(),
-            keys.len(),
-            records.as_mut_ptr(),
-            records.len(),
+            storage,
+            keys,
+            &mut records,
             processor,
-            operation,
-            first,
-            second,
-            buffer.as_mut_ptr(),
-            buffer.len(),
+            encode_request(request),
+            buffer,
         )
     };
     // Most requests leave the records as they are. Then nothing is written, and the

@@ -13,23 +13,17 @@
 //!
 //! | Item | What it is |
 //! |---|---|
-//! | `request`, `proved::Proved` | the proved unit, called in the static library through its C function |
+//! | [`proved`] | the proved unit, called in the static library through its C function |
 //! | [`reference`](mod@reference) | document 01 written down byte by byte, for comparison |
 //! | [`plain`] | ordinary hand-written Rust, for comparison of speed |
 //!
-//! The proved unit is there when the build found the static library; see
-//! [`PROVED_UNIT_LINKED`]. All three have a function `request` with the same
-//! parameters, and all three implement [`Unit`].
+//! All three have a function `request` with the same parameters, and all three implement
+//! [`Unit`]. The function [`request`] of this crate is that of the proved unit.
 //!
 //! # Example
 //!
 //! ```
-//! // Where the static library is missing, the example runs on the reference.
-//! #[cfg(not(proved_unit))]
-//! use storage_unit::reference::request;
-//! #[cfg(proved_unit)]
-//! use storage_unit::request;
-//! use storage_unit::{KeyInstruction, Number, Processor, Request, Settings};
+//! use storage_unit::{request, KeyInstruction, Number, Processor, Request, Settings};
 //!
 //! let settings = Settings { four_k: false, extensions: true };
 //! let mut storage = vec![0; 65_536];
@@ -70,18 +64,10 @@
 
 pub mod boundary;
 pub mod plain;
-#[cfg(proved_unit)]
 pub mod proved;
 pub mod reference;
 
-#[cfg(proved_unit)]
 pub use proved::request;
-
-/// Whether the build found the static library of the proved unit.
-///
-/// When it is `false`, the function `request` and the module `proved` are not
-/// part of this crate.
-pub const PROVED_UNIT_LINKED: bool = cfg!(proved_unit);
 
 /// The settings of the machine, the same for both processors.
 #[derive(Clone, Copy, Debug, Default, PartialEq, Eq, Hash)]
@@ -125,7 +111,7 @@ impl Settings {
 /// The record of one processor.
 ///
 /// The fields can hold values that no processor has. A request for a processor
-/// with such a record is refused with [`Number::BadProcessor`].
+/// with such a record is refused with [`Number::Record`].
 #[derive(Clone, Copy, Debug, Default, PartialEq, Eq, Hash)]
 pub struct Processor {
     /// The PSW key, 0 to 15.
@@ -257,7 +243,7 @@ pub enum Number {
     /// 1: operation exception. The extensions are not present.
     Operation = 1,
     /// 2: privileged-operation exception. The processor is in the problem state.
-    PrivilegedOperation = 2,
+    Privileged = 2,
     /// 4: protection exception. A byte of the access is forbidden.
     Protection = 4,
     /// 5: addressing exception. An address lies outside storage.
@@ -268,14 +254,15 @@ pub enum Number {
     /// and RRB need bit 7 of control register 0.
     SpecialOperation = 19,
     /// 64: the length of the storage or of the key array is wrong.
-    BadLengths = 64,
-    /// 65: there is no such processor, or its record is damaged.
-    BadProcessor = 65,
+    Configuration = 64,
+    /// 65: there is no such processor, or its record holds a value that no
+    /// processor has.
+    Record = 65,
     /// 66: an access length, an address or the length of the buffer is wrong.
-    BadRequest = 66,
+    Operand = 66,
     /// 67: a real address is inside storage and its absolute address is outside.
     /// No state gives this number, since a prefix outside storage gives 65.
-    AbsoluteOutside = 67,
+    AbsoluteAddress = 67,
 }
 
 impl Number {
@@ -283,15 +270,15 @@ impl Number {
     pub const ALL: [Number; 11] = [
         Number::Completed,
         Number::Operation,
-        Number::PrivilegedOperation,
+        Number::Privileged,
         Number::Protection,
         Number::Addressing,
         Number::Specification,
         Number::SpecialOperation,
-        Number::BadLengths,
-        Number::BadProcessor,
-        Number::BadRequest,
-        Number::AbsoluteOutside,
+        Number::Configuration,
+        Number::Record,
+        Number::Operand,
+        Number::AbsoluteAddress,
     ];
 
     /// The number itself.
@@ -317,15 +304,15 @@ impl Number {
         Some(match code {
             0 => Number::Completed,
             1 => Number::Operation,
-            2 => Number::PrivilegedOperation,
+            2 => Number::Privileged,
             4 => Number::Protection,
             5 => Number::Addressing,
             6 => Number::Specification,
             19 => Number::SpecialOperation,
-            64 => Number::BadLengths,
-            65 => Number::BadProcessor,
-            66 => Number::BadRequest,
-            67 => Number::AbsoluteOutside,
+            64 => Number::Configuration,
+            65 => Number::Record,
+            66 => Number::Operand,
+            67 => Number::AbsoluteAddress,
             _ => return None,
         })
     }
@@ -337,7 +324,7 @@ pub struct Answer {
     /// What happened. With any number but [`Number::Completed`], nothing lent
     /// and neither record has changed.
     pub number: Number,
-    /// For [`Number::Addressing`], [`Number::AbsoluteOutside`] and
+    /// For [`Number::Addressing`], [`Number::AbsoluteAddress`] and
     /// [`Number::Protection`] of an access, the offset of the first byte
     /// concerned; otherwise zero.
     pub place: u16,

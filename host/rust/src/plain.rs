@@ -77,17 +77,17 @@ fn request_with_record(
         || !length.is_multiple_of(PAGE)
         || keys.len() != length >> unit_shift(settings)
     {
-        return Answer::refused(Number::BadLengths, 0);
+        return Answer::refused(Number::Configuration, 0);
     }
     let Some(own) = own else {
-        return Answer::refused(Number::BadProcessor, 0);
+        return Answer::refused(Number::Record, 0);
     };
     if own.key > 15
         || own.code > 3
         || !(own.prefix as usize).is_multiple_of(PAGE)
         || own.prefix as usize >= length
     {
-        return Answer::refused(Number::BadProcessor, 0);
+        return Answer::refused(Number::Record, 0);
     }
     match *request {
         Request::Access {
@@ -172,7 +172,7 @@ fn access(
 ) -> Answer {
     let count = length as usize;
     if count == 0 || count > 256 || address > ADDRESS_MASK || buffer.len() < count {
-        return Answer::refused(Number::BadRequest, 0);
+        return Answer::refused(Number::Operand, 0);
     }
     let start = address as usize;
     if start >= storage.len() {
@@ -223,7 +223,7 @@ fn key_instruction(
         }
         KeyInstruction::Rrb { address } => {
             if address > ADDRESS_MASK {
-                return Answer::refused(Number::BadRequest, 0);
+                return Answer::refused(Number::Operand, 0);
             }
             (address, false)
         }
@@ -235,7 +235,7 @@ fn key_instruction(
         return Answer::refused(Number::Operation, 0);
     }
     if own.problem {
-        return Answer::refused(Number::PrivilegedOperation, 0);
+        return Answer::refused(Number::Privileged, 0);
     }
     if !extended && settings.four_k && !own.key_control {
         return Answer::refused(Number::SpecialOperation, 0);
@@ -279,7 +279,7 @@ fn prefix_instruction(
     instruction: PrefixInstruction,
 ) -> Answer {
     if own.problem {
-        return Answer::refused(Number::PrivilegedOperation, 0);
+        return Answer::refused(Number::Privileged, 0);
     }
     match instruction {
         PrefixInstruction::SetPrefix { word } => {
@@ -294,61 +294,69 @@ fn prefix_instruction(
     }
 }
 
-/// The plain implementation behind a C function like that of the proved unit.
-///
-/// It is there so that both can be called and measured in the same way.
+/// The plain implementation behind a C function like that of the proved unit, with the
+/// same answers to every number and every byte, so that both can be called and measured
+/// in the same way.
 ///
 /// # Safety
 ///
-/// Each pointer must be valid for reads and writes of as many bytes as the length
-/// that follows it, also when the length is zero, and these ranges must not
-/// overlap. The records have 16 bytes with the unused flags and the reserved bytes
-/// zero, the unused bits of the settings are zero, and the operation is 0 to 9.
+/// As for every [`boundary::RawRequest`].
 #[no_mangle]
 #[inline(never)]
 #[allow(clippy::too_many_arguments)]
 pub unsafe extern "C" fn storage_unit_request_plain(
     settings: u32,
     storage: *mut u8,
-    storage_len: usize,
+    storage_length: usize,
     keys: *mut u8,
-    keys_len: usize,
-    processors: *mut u8,
-    processors_len: usize,
+    keys_length: usize,
+    records: *mut u8,
+    records_length: usize,
     processor: u32,
     operation: u32,
     first: u32,
     second: u32,
     buffer: *mut u8,
-    buffer_len: usize,
+    buffer_length: usize,
 ) -> u64 {
     // SAFETY: the caller gives valid ranges that do not overlap.
     let (storage, keys, records, buffer) = unsafe {
         (
-            std::slice::from_raw_parts_mut(storage, storage_len),
-            std::slice::from_raw_parts_mut(keys, keys_len),
-            std::slice::from_raw_parts_mut(processors, processors_len),
-            std::slice::from_raw_parts_mut(buffer, buffer_len),
+            lent(storage, storage_length),
+            lent(keys, keys_length),
+            lent(records, records_length),
+            lent(buffer, buffer_length),
         )
     };
-    assert_eq!(records.len(), boundary::PROCESSORS_LENGTH);
-    let request =
-        boundary::decode_request(operation, first, second).expect("the operation number is 0 to 9");
-    let (records, _) = records.as_chunks_mut();
+    let Some(settings) = boundary::decode_settings(settings) else {
+        return boundary::encode_answer(Answer::refused(Number::Configuration, 0));
+    };
+    let request = boundary::decode_request(operation, first, second);
+    let records: &mut [[u8; boundary::RECORD_LENGTH]] = match records.len() {
+        boundary::RECORDS_LENGTH => records.as_chunks_mut().0,
+        _ => &mut [],
+    };
     let record = records.get_mut(processor as usize);
     let mut own = record.as_deref().map(boundary::decode_processor);
-    let answer = request_with_record(
-        boundary::decode_settings(settings),
-        storage,
-        keys,
-        own.as_mut(),
-        &request,
-        buffer,
-    );
-    if let (Some(record), Some(own)) = (record, own) {
+    let answer = request_with_record(settings, storage, keys, own.as_mut(), &request, buffer);
+    if let (Some(record), Some(own), Number::Completed) = (record, own, answer.number) {
         *record = boundary::encode_processor(&own);
     }
     boundary::encode_answer(answer)
+}
+
+/// The bytes that a caller in another language lends.
+///
+/// # Safety
+///
+/// The pointer must be valid for reads and writes of this many bytes, which nothing else
+/// reads or writes meanwhile. Where the length is 0, the pointer is not used.
+unsafe fn lent<'a>(pointer: *mut u8, length: usize) -> &'a mut [u8] {
+    if length == 0 {
+        return &mut [];
+    }
+    // SAFETY: the caller guarantees it.
+    unsafe { std::slice::from_raw_parts_mut(pointer, length) }
 }
 
 /// The plain implementation, for code that is written for any [`Unit`].

@@ -1,33 +1,27 @@
 //! The proved unit, called in the static library.
-//!
-//! This module is part of the crate when the build found the library.
 
 use crate::{boundary, Answer, Processor, Request, Settings, Unit};
 
 extern "C" {
-    /// The C function of the static library; see [`boundary::RawRequest`].
+    /// The C function of the static library.
     ///
     /// # Safety
     ///
-    /// Each pointer must be valid for reads and writes of as many bytes as the
-    /// length that follows it, also when the length is zero, and these ranges must
-    /// not overlap. The records have 16 bytes with the unused flags and the
-    /// reserved bytes zero, the unused bits of the settings are zero, and the
-    /// operation is 0 to 9.
+    /// As for every [`boundary::RawRequest`].
     pub fn storage_unit_request(
         settings: u32,
         storage: *mut u8,
-        storage_len: usize,
+        storage_length: usize,
         keys: *mut u8,
-        keys_len: usize,
-        processors: *mut u8,
-        processors_len: usize,
+        keys_length: usize,
+        records: *mut u8,
+        records_length: usize,
         processor: u32,
         operation: u32,
         first: u32,
         second: u32,
         buffer: *mut u8,
-        buffer_len: usize,
+        buffer_length: usize,
     ) -> u64;
 }
 
@@ -41,9 +35,9 @@ extern "C" {
 /// rest; the other requests do not use `buffer`, which can be empty.
 ///
 /// Values outside these limits are allowed and are answered with
-/// [`Number::BadLengths`](crate::Number::BadLengths),
-/// [`Number::BadProcessor`](crate::Number::BadProcessor) or
-/// [`Number::BadRequest`](crate::Number::BadRequest). With any number but
+/// [`Number::Configuration`](crate::Number::Configuration),
+/// [`Number::Record`](crate::Number::Record) or
+/// [`Number::Operand`](crate::Number::Operand). With any number but
 /// [`Number::Completed`](crate::Number::Completed), nothing lent and neither
 /// record has changed.
 ///

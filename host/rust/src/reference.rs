@@ -157,15 +157,15 @@ type Line = fn(&Situation) -> Option<u16>;
 
 /// The lines of the table that refuse a request, from top to bottom.
 const LINES: [(Number, Line); 10] = [
-    (Number::BadLengths, line_64),
-    (Number::BadProcessor, line_65),
-    (Number::BadRequest, line_66),
+    (Number::Configuration, line_64),
+    (Number::Record, line_65),
+    (Number::Operand, line_66),
     (Number::Operation, line_1),
-    (Number::PrivilegedOperation, line_2),
+    (Number::Privileged, line_2),
     (Number::SpecialOperation, line_19),
     (Number::Specification, line_6),
     (Number::Addressing, line_5),
-    (Number::AbsoluteOutside, line_67),
+    (Number::AbsoluteAddress, line_67),
     (Number::Protection, line_4),
 ];
 

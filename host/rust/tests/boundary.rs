@@ -1,16 +1,16 @@
-//! The encoding at the C boundary, and the C functions called without the typed
-//! wrapper.
+//! The C boundary: its encodings, and the C functions called with any numbers and bytes.
 
 mod support;
 
+use std::ptr::null_mut;
+
 use storage_unit::boundary::*;
-use storage_unit::plain::storage_unit_request_plain;
 use storage_unit::reference::Reference;
 use storage_unit::{
     Answer, KeyInstruction, Number, PrefixInstruction, Processor, Request, Settings, Unit,
 };
 
-use support::{random_buffer, random_key, random_processor, random_request, Aim, Lent, Random};
+use support::{random_buffer, random_key, random_processor, random_request, Aim, Random};
 
 #[test]
 fn settings_have_two_bits() {
@@ -22,7 +22,10 @@ fn settings_have_two_bits() {
     ] {
         let settings = Settings { four_k, extensions };
         assert_eq!(encode_settings(settings), number);
-        assert_eq!(decode_settings(number), settings);
+        assert_eq!(decode_settings(number), Some(settings));
+    }
+    for bit in 2..32 {
+        assert_eq!(decode_settings(1 << bit), None);
     }
 }
 
@@ -52,6 +55,18 @@ fn records_have_eight_bytes_each() {
     ];
     assert_eq!(encode_processors(&processors), bytes);
     assert_eq!(decode_processors(&bytes), processors);
+    for (place, bit) in reserved_bits() {
+        let mut bytes = bytes;
+        bytes[place] |= bit;
+        assert_eq!(decode_processors(&bytes)[0].key, 255);
+        assert_eq!(decode_processors(&bytes)[1], processors[1]);
+    }
+}
+
+/// The reserved bits of a record, each with its byte.
+fn reserved_bits() -> impl Iterator<Item = (usize, u8)> {
+    let controls = (3..8).map(|bit| (CONTROLS_AT, 1 << bit));
+    controls.chain((0..8).map(|bit| (RESERVED_AT, 1 << bit)))
 }
 
 #[test]
@@ -100,10 +115,11 @@ fn requests_have_operation_and_two_operands() {
     ] {
         assert_eq!(encode_request(&request), encoded);
         let (operation, first, second) = encoded;
-        assert_eq!(decode_request(operation, first, second), Some(request));
+        assert_eq!(decode_request(operation, first, second), request);
     }
-    assert_eq!(decode_request(10, 0, 0), None);
-    assert_eq!(decode_request(u32::MAX, 0, 0), None);
+    for operation in [10, u32::MAX] {
+        assert_eq!(decode_request(operation, r1, 4), Request::fetch(0, 0));
+    }
 }
 
 #[test]
@@ -130,9 +146,308 @@ fn answers_are_packed() {
     }
 }
 
-/// A C function called by itself gives what the reference gives, whatever stands in
-/// the operands that are not used; the reserved bytes of the records stay zero.
-fn unused_operands_are_ignored(raw: RawRequest) {
+/// The bytes that are lent to a call.
+#[derive(Clone, Debug, PartialEq, Eq)]
+struct Bytes {
+    storage: Vec<u8>,
+    keys: Vec<u8>,
+    records: Vec<u8>,
+    buffer: Vec<u8>,
+}
+
+impl Bytes {
+    /// Two 4K blocks with 2K units. Both records are zero: supervisor state, PSW key 0,
+    /// prefix 0. Bit 7 of each key is on, so that a key that is written changes.
+    fn new() -> Bytes {
+        Bytes {
+            storage: vec![0x5A; 8192],
+            keys: vec![0x27; 4],
+            records: vec![0; RECORDS_LENGTH],
+            buffer: vec![0xA5; 8],
+        }
+    }
+
+    fn record(&mut self, processor: usize) -> &mut [u8] {
+        &mut self.records[processor * RECORD_LENGTH..][..RECORD_LENGTH]
+    }
+
+    fn call(
+        &mut self,
+        raw: RawRequest,
+        settings: u32,
+        processor: u32,
+        request: (u32, u32, u32),
+    ) -> u64 {
+        // SAFETY: the tests call the functions of this crate and of the static library.
+        unsafe {
+            call_raw(
+                raw,
+                settings,
+                &mut self.storage,
+                &mut self.keys,
+                &mut self.records,
+                processor,
+                request,
+                &mut self.buffer,
+            )
+        }
+    }
+}
+
+/// One request of each operation that completes with `Bytes::new()` and the extensions,
+/// for each processor.
+const COMPLETING: [(u32, u32, u32); 10] = [
+    (FETCH, 100, 4),
+    (STORE, 100, 4),
+    (ISK, 0x1234_5678, 0x800),
+    (SSK, 0x30, 0x800),
+    (RRB, 0, 0x800),
+    (ISKE, 0, 0),
+    (SSKE, 0x30, 0),
+    (RRBE, 0, 0),
+    (SET_PREFIX, 4096, 0),
+    (STORE_PREFIX, 0, 0),
+];
+
+/// The request completes.
+fn completes(raw: RawRequest, bytes: &mut Bytes, processor: u32, request: (u32, u32, u32)) {
+    let packed = bytes.call(raw, EXTENSIONS, processor, request);
+    let number = decode_answer(packed).map(|answer| answer.number);
+    assert_eq!(number, Some(Number::Completed), "{request:?}");
+}
+
+/// The request is refused with this number and place 0, and nothing lent changes.
+fn refused(
+    raw: RawRequest,
+    before: &Bytes,
+    settings: u32,
+    processor: u32,
+    request: (u32, u32, u32),
+    number: Number,
+) {
+    let mut bytes = before.clone();
+    let packed = bytes.call(raw, settings, processor, request);
+    assert_eq!(
+        decode_answer(packed),
+        Some(Answer::refused(number, 0)),
+        "{request:?}, settings {settings}, processor {processor}"
+    );
+    assert!(bytes == *before, "{request:?}");
+}
+
+/// Another bit of the settings: 64, before everything else.
+fn other_settings(raw: RawRequest) {
+    let good = Bytes::new();
+    let mut bad = good.clone();
+    bad.records[PSW_KEY_AT] = 16;
+    bad.records.pop();
+    for bit in 2..32 {
+        for settings in [1 << bit, 1 << bit | EXTENSIONS] {
+            for request in COMPLETING.into_iter().chain([(10, 0, 0)]) {
+                for processor in 0..3 {
+                    refused(
+                        raw,
+                        &good,
+                        settings,
+                        processor,
+                        request,
+                        Number::Configuration,
+                    );
+                    refused(
+                        raw,
+                        &bad,
+                        settings,
+                        processor,
+                        request,
+                        Number::Configuration,
+                    );
+                }
+            }
+        }
+    }
+}
+
+/// A number that no operation has: 66, where 64 and 65 do not apply.
+fn other_operations(raw: RawRequest) {
+    let bytes = Bytes::new();
+    let mut bad_record = bytes.clone();
+    bad_record.record(0)[PSW_KEY_AT] = 16;
+    let mut bad_lengths = bad_record.clone();
+    bad_lengths.keys.pop();
+    for operation in [10, 11, 255, 256, 257, 65_536, 1 << 31, u32::MAX] {
+        for (_, first, second) in COMPLETING {
+            let request = (operation, first, second);
+            refused(raw, &bytes, EXTENSIONS, 0, request, Number::Operand);
+            refused(raw, &bytes, EXTENSIONS, 1, request, Number::Operand);
+            refused(raw, &bytes, EXTENSIONS, 2, request, Number::Record);
+            refused(raw, &bad_record, EXTENSIONS, 0, request, Number::Record);
+            refused(raw, &bad_record, EXTENSIONS, 1, request, Number::Operand);
+            refused(
+                raw,
+                &bad_lengths,
+                EXTENSIONS,
+                0,
+                request,
+                Number::Configuration,
+            );
+        }
+    }
+}
+
+/// Records of another length than sixteen: 65, where 64 does not apply.
+fn other_lengths_of_records(raw: RawRequest) {
+    for length in [0, 1, 8, 15, 17, 24, 32] {
+        let mut bytes = Bytes::new();
+        bytes.records.resize(length, 0);
+        let mut bad_lengths = bytes.clone();
+        bad_lengths.storage.pop();
+        for request in COMPLETING.into_iter().chain([(10, 0, 0)]) {
+            for processor in 0..4 {
+                refused(raw, &bytes, EXTENSIONS, processor, request, Number::Record);
+                refused(
+                    raw,
+                    &bad_lengths,
+                    EXTENSIONS,
+                    processor,
+                    request,
+                    Number::Configuration,
+                );
+            }
+        }
+    }
+}
+
+/// A reserved bit: 65 for that processor, and no matter to the other, whose requests keep
+/// it.
+fn reserved_bits_of_records(raw: RawRequest) {
+    for (place, bit) in reserved_bits() {
+        for processor in 0..2 {
+            let mut bytes = Bytes::new();
+            bytes.record(processor)[place] |= bit;
+            for request in COMPLETING {
+                refused(
+                    raw,
+                    &bytes,
+                    EXTENSIONS,
+                    processor as u32,
+                    request,
+                    Number::Record,
+                );
+                let mut after = bytes.clone();
+                completes(raw, &mut after, 1 - processor as u32, request);
+                assert_eq!(after.record(processor), bytes.record(processor));
+            }
+        }
+    }
+}
+
+/// A completed request writes its own record and no byte of the other, whatever that
+/// holds.
+fn other_record_is_kept(raw: RawRequest) {
+    for processor in 0..2 {
+        for fill in [0x00, 0x5A, 0xFF] {
+            let mut before = Bytes::new();
+            before.record(1 - processor).fill(fill);
+            for request in COMPLETING {
+                let mut bytes = before.clone();
+                completes(raw, &mut bytes, processor as u32, request);
+                assert_eq!(bytes.record(1 - processor), [fill; RECORD_LENGTH]);
+                let mut own = [0; RECORD_LENGTH];
+                match request.0 {
+                    RRB | RRBE => own[CODE_AT] = 3,
+                    SET_PREFIX => own[PREFIX_AT + 1] = 0x10,
+                    _ => {}
+                }
+                assert_eq!(bytes.record(processor), own, "{request:?}");
+            }
+        }
+    }
+}
+
+/// Where a length is 0, the pointer can be null.
+fn null_pointers(raw: RawRequest) {
+    let mut bytes = Bytes::new();
+    let call = |bytes: &mut Bytes, null: [bool; 4], (operation, first, second)| {
+        let lent = [
+            &mut bytes.storage,
+            &mut bytes.keys,
+            &mut bytes.records,
+            &mut bytes.buffer,
+        ];
+        let mut pointers = [(null_mut(), 0); 4];
+        for ((pointer, bytes), null) in pointers.iter_mut().zip(lent).zip(null) {
+            if !null {
+                *pointer = (bytes.as_mut_ptr(), bytes.len());
+            }
+        }
+        let [storage, keys, records, buffer] = pointers;
+        // SAFETY: each pointer is that of a separate array with its length, or null with
+        // length 0.
+        let packed = unsafe {
+            raw(
+                EXTENSIONS, storage.0, storage.1, keys.0, keys.1, records.0, records.1, 0,
+                operation, first, second, buffer.0, buffer.1,
+            )
+        };
+        decode_answer(packed).map(|answer| answer.number)
+    };
+    for request in COMPLETING.into_iter().chain([(10, 0, 0)]) {
+        for choice in 0..16 {
+            let null = [0, 1, 2, 3].map(|index| choice >> index & 1 == 1);
+            let [no_storage, no_keys, no_records, no_buffer] = null;
+            let uses_buffer = matches!(request.0, FETCH | STORE);
+            let number = if no_storage || no_keys {
+                Number::Configuration
+            } else if no_records {
+                Number::Record
+            } else if request.0 == 10 || (uses_buffer && no_buffer) {
+                Number::Operand
+            } else {
+                Number::Completed
+            };
+            bytes.clone_from(&Bytes::new());
+            assert_eq!(call(&mut bytes, null, request), Some(number), "{request:?}");
+            if number != Number::Completed {
+                assert!(bytes == Bytes::new(), "{request:?}");
+            }
+        }
+    }
+}
+
+/// What a call leaves, by the reference.
+fn expected_call(
+    bytes: &mut Bytes,
+    settings: u32,
+    processor: u32,
+    (operation, first, second): (u32, u32, u32),
+) -> u64 {
+    let Some(settings) = decode_settings(settings) else {
+        return encode_answer(Answer::refused(Number::Configuration, 0));
+    };
+    let (mut processors, processor) = match bytes.records[..].try_into() {
+        Ok(records) => (decode_processors(records), processor),
+        Err(_) => ([Processor::default(); 2], 2),
+    };
+    let answer = Reference::request(
+        settings,
+        &mut bytes.storage,
+        &mut bytes.keys,
+        &mut processors,
+        processor,
+        &decode_request(operation, first, second),
+        &mut bytes.buffer,
+    );
+    if answer.number == Number::Completed {
+        let processor = processor as usize;
+        let own = encode_processor(&processors[processor]);
+        bytes.record(processor).copy_from_slice(&own);
+    }
+    encode_answer(answer)
+}
+
+/// Random calls, also with settings, records and operations that the typed interface
+/// cannot give. Operands that an operation does not use are random.
+fn any_numbers_and_bytes(raw: RawRequest) {
     let random = &mut Random::new(1_987);
     let length = 16_384;
     for step in 0..200_000 {
@@ -144,76 +459,76 @@ fn unused_operands_are_ignored(raw: RawRequest) {
         for key in &mut keys {
             *key = random_key(random);
         }
-        let mut expected = Lent {
-            settings,
+        let processors = [(); 2].map(|()| random_processor(random, length));
+        let mut processor = random.pick(&[0, 0, 0, 0, 1, 1, 1, 1, 2]);
+        let aim = Aim::new(settings, length, &processors, processor);
+        let request = random_request(random, &aim);
+        let mut buffer = Vec::new();
+        random_buffer(random, &request, &mut buffer);
+
+        let mut expected = Bytes {
             storage: vec![step as u8; length],
             keys,
-            processors: [(); 2].map(|()| random_processor(random, length)),
+            records: encode_processors(&processors).to_vec(),
+            buffer,
         };
-        let processor = random.pick(&[0, 0, 1, 1, 2]);
-        let aim = Aim::new(settings, length, &expected.processors, processor);
-        let request = random_request(random, &aim);
-        let mut expected_buffer = Vec::new();
-        random_buffer(random, &request, &mut expected_buffer);
-
-        let mut actual = expected.clone();
-        let mut actual_buffer = expected_buffer.clone();
-        let mut records = encode_processors(&actual.processors);
-        let (operation, mut first, mut second) = encode_request(&request);
+        let mut settings = encode_settings(settings);
+        let (mut operation, mut first, mut second) = encode_request(&request);
         match operation {
             RRB | RRBE => first = random.word(),
             SET_PREFIX => second = random.word(),
             STORE_PREFIX => (first, second) = (random.word(), random.word()),
             _ => {}
         }
-        // SAFETY: the pointers and lengths are those of separate arrays that live
-        // longer than the call.
-        let packed = unsafe {
-            raw(
-                encode_settings(settings),
-                actual.storage.as_mut_ptr(),
-                actual.storage.len(),
-                actual.keys.as_mut_ptr(),
-                actual.keys.len(),
-                records.as_mut_ptr(),
-                records.len(),
-                processor,
-                operation,
-                first,
-                second,
-                actual_buffer.as_mut_ptr(),
-                actual_buffer.len(),
-            )
-        };
-        let answer = Reference::request(
-            settings,
-            &mut expected.storage,
-            &mut expected.keys,
-            &mut expected.processors,
-            processor,
-            &request,
-            &mut expected_buffer,
-        );
-        assert_eq!(packed, encode_answer(answer), "step {step}: {request:?}");
-        assert_eq!(records, encode_processors(&expected.processors));
-        actual.processors = decode_processors(&records);
+        match random.below(16) {
+            0 => settings |= 1 << (2 + random.below(30)),
+            1 => operation = 10 + random.word() % 1_000,
+            2 => expected.records.resize(random.below(40) as usize, 0),
+            3 => {
+                let place = random.pick(&[CONTROLS_AT, RESERVED_AT]);
+                expected.record(random.below(2) as usize)[place] ^= 1 << random.below(8);
+            }
+            4 => {
+                let damaged = random.below(2) as usize;
+                random.fill(expected.record(damaged));
+            }
+            5 => processor = random.word(),
+            _ => {}
+        }
+
+        let mut actual = expected.clone();
+        let asked = (operation, first, second);
+        let packed = actual.call(raw, settings, processor, asked);
+        let expected_packed = expected_call(&mut expected, settings, processor, asked);
+        assert_eq!(packed, expected_packed, "step {step}: {request:?}");
         assert!(actual == expected, "step {step}: {request:?}");
-        assert!(actual_buffer == expected_buffer, "step {step}: {request:?}");
     }
 }
 
-#[test]
-fn plain_ignores_unused_operands() {
-    unused_operands_are_ignored(storage_unit_request_plain);
+/// Makes one test for each named case and each C function.
+macro_rules! for_each_function {
+    ($($case:ident)*) => {
+        for_each_function!(@module plain, storage_unit::plain::storage_unit_request_plain: $($case)*);
+        for_each_function!(@module proved, storage_unit::proved::storage_unit_request: $($case)*);
+    };
+    (@module $module:ident, $function:path: $($case:ident)*) => {
+        mod $module {
+            $(
+                #[test]
+                fn $case() {
+                    super::$case($function);
+                }
+            )*
+        }
+    };
 }
 
-#[cfg(proved_unit)]
-#[test]
-fn proved_ignores_unused_operands() {
-    unused_operands_are_ignored(storage_unit::proved::storage_unit_request);
+for_each_function! {
+    other_settings
+    other_operations
+    other_lengths_of_records
+    reserved_bits_of_records
+    other_record_is_kept
+    null_pointers
+    any_numbers_and_bytes
 }
-
-#[cfg(not(proved_unit))]
-#[test]
-#[ignore = "the static library of the proved unit is missing"]
-fn proved_ignores_unused_operands() {}

@@ -5,8 +5,7 @@
 //! are compared: the answer, the whole buffer, both records in every field, and
 //! every key. Of the storage, the neighbourhoods of the addresses that the request
 //! names are compared after each request, with and without prefixing; the whole
-//! storage is compared after every few thousand requests and at the end of each
-//! machine.
+//! storage is compared from time to time and at the end of each machine.
 //!
 //! `STORAGE_UNIT_REQUESTS` sets the number of requests for each implementation,
 //! `STORAGE_UNIT_SEED` the seed of the first machine. Each further machine has the
@@ -27,7 +26,7 @@ use storage_unit::{
 
 use support::*;
 
-const DEFAULT_REQUESTS: u64 = 2_000_000;
+const DEFAULT_REQUESTS: u64 = 1_000_000;
 const DEFAULT_SEED: u64 = 3_700_000;
 
 /// The counts below are asserted from this number of requests on.
@@ -220,7 +219,7 @@ fn events_of(
         } => {
             met.set(
                 Event::BufferOneShort,
-                answer.number == Number::BadRequest
+                answer.number == Number::Operand
                     && (1..=256).contains(&length)
                     && address < ADDRESSES_24
                     && asked.buffer_length + 1 == length as usize,
@@ -386,14 +385,14 @@ impl Counts {
     /// Every line of the table was met often, by every operation that can meet it,
     /// and no operation gave a number that it cannot give.
     fn check(&self, requests: u64) {
-        assert_eq!(self.total(Number::AbsoluteOutside), 0, "67 was given");
+        assert_eq!(self.total(Number::AbsoluteAddress), 0, "67 was given");
         if requests < ENOUGH_TO_COUNT {
             return;
         }
         for number in Number::ALL {
             let minimum = requests / 500;
             assert!(
-                number == Number::AbsoluteOutside || self.total(number) >= minimum,
+                number == Number::AbsoluteAddress || self.total(number) >= minimum,
                 "{number:?} came back {} times, fewer than {minimum}",
                 self.total(number)
             );
@@ -725,16 +724,10 @@ fn plain_behind_boundary_against_reference() {
     run::<PlainBehindBoundary>();
 }
 
-#[cfg(proved_unit)]
 #[test]
 fn proved_against_reference() {
     run::<storage_unit::proved::Proved>();
 }
-
-#[cfg(not(proved_unit))]
-#[test]
-#[ignore = "the static library of the proved unit is missing"]
-fn proved_against_reference() {}
 
 /// The units that `units_named` gives are those whose keys a completed request
 /// changes or whose bytes it touches.

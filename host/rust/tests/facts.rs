@@ -223,7 +223,7 @@ fn fact_17<U: Unit>() {
     let buffer = new_bytes(1000);
     for length in [0, 257] {
         for request in [Request::fetch(0, length), Request::store(0, length)] {
-            refused::<U>(&before, request, &buffer, Number::BadRequest, 0);
+            refused::<U>(&before, request, &buffer, Number::Operand, 0);
         }
     }
 

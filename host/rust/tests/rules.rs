@@ -123,18 +123,13 @@ fn order_of_lines_for_accesses<U: Unit>() {
                 bad_lengths.clone(),
                 kind(16_777_216, 0),
                 0,
-                Number::BadLengths,
+                Number::Configuration,
             ),
-            (
-                bad_record.clone(),
-                kind(16_777_216, 0),
-                0,
-                Number::BadProcessor,
-            ),
-            (locked.clone(), kind(16_777_216, 4), 4, Number::BadRequest),
-            (locked.clone(), kind(65_536, 0), 4, Number::BadRequest),
-            (locked.clone(), kind(65_536, 257), 300, Number::BadRequest),
-            (locked.clone(), kind(65_536, 4), 3, Number::BadRequest),
+            (bad_record.clone(), kind(16_777_216, 0), 0, Number::Record),
+            (locked.clone(), kind(16_777_216, 4), 4, Number::Operand),
+            (locked.clone(), kind(65_536, 0), 4, Number::Operand),
+            (locked.clone(), kind(65_536, 257), 300, Number::Operand),
+            (locked.clone(), kind(65_536, 4), 3, Number::Operand),
             (locked.clone(), kind(65_536, 4), 4, Number::Addressing),
             (locked.clone(), kind(600, 4), 4, Number::Protection),
             (unlocked.clone(), kind(600, 4), 4, Number::Completed),
@@ -152,13 +147,18 @@ fn order_of_lines_for_isk_and_ssk<U: Unit>() {
     for instruction in [isk, ssk] {
         let outside_and_odd = instruction(0, 65_537);
         falls_through::<U>(&[
-            (bad_lengths.clone(), outside_and_odd, 0, Number::BadLengths),
-            (bad_record.clone(), outside_and_odd, 0, Number::BadProcessor),
+            (
+                bad_lengths.clone(),
+                outside_and_odd,
+                0,
+                Number::Configuration,
+            ),
+            (bad_record.clone(), outside_and_odd, 0, Number::Record),
             (
                 in_problem_state.clone(),
                 outside_and_odd,
                 0,
-                Number::PrivilegedOperation,
+                Number::Privileged,
             ),
             (
                 without_control.clone(),
@@ -181,20 +181,15 @@ fn order_of_lines_for_rrb<U: Unit>() {
     let [bad_lengths, bad_record, in_problem_state, without_control, right] =
         faulty_states(settings);
     falls_through::<U>(&[
-        (bad_lengths, rrb(16_777_216), 0, Number::BadLengths),
-        (bad_record, rrb(16_777_216), 0, Number::BadProcessor),
+        (bad_lengths, rrb(16_777_216), 0, Number::Configuration),
+        (bad_record, rrb(16_777_216), 0, Number::Record),
         (
             in_problem_state.clone(),
             rrb(16_777_216),
             0,
-            Number::BadRequest,
+            Number::Operand,
         ),
-        (
-            in_problem_state,
-            rrb(65_551),
-            0,
-            Number::PrivilegedOperation,
-        ),
+        (in_problem_state, rrb(65_551), 0, Number::Privileged),
         (without_control, rrb(65_551), 0, Number::SpecialOperation),
         (right.clone(), rrb(65_551), 0, Number::Addressing),
         (right, rrb(15), 0, Number::Completed),
@@ -222,26 +217,16 @@ fn order_of_lines_for_extended_instructions<U: Unit>() {
                 without_extensions(&bad_lengths),
                 outside,
                 0,
-                Number::BadLengths,
+                Number::Configuration,
             ),
-            (
-                without_extensions(&bad_record),
-                outside,
-                0,
-                Number::BadProcessor,
-            ),
+            (without_extensions(&bad_record), outside, 0, Number::Record),
             (
                 without_extensions(&in_problem_state),
                 outside,
                 0,
                 Number::Operation,
             ),
-            (
-                in_problem_state.clone(),
-                outside,
-                0,
-                Number::PrivilegedOperation,
-            ),
+            (in_problem_state.clone(), outside, 0, Number::Privileged),
             (without_control.clone(), outside, 0, Number::Addressing),
             (without_control.clone(), inside, 0, Number::Completed),
         ]);
@@ -259,19 +244,14 @@ fn order_of_lines_for_prefix_instructions<U: Unit>() {
             bad_lengths.clone(),
             set_prefix(65_536),
             0,
-            Number::BadLengths,
+            Number::Configuration,
         ),
-        (
-            bad_record.clone(),
-            set_prefix(65_536),
-            0,
-            Number::BadProcessor,
-        ),
+        (bad_record.clone(), set_prefix(65_536), 0, Number::Record),
         (
             in_problem_state.clone(),
             set_prefix(65_536),
             0,
-            Number::PrivilegedOperation,
+            Number::Privileged,
         ),
         (
             without_control.clone(),
@@ -285,14 +265,9 @@ fn order_of_lines_for_prefix_instructions<U: Unit>() {
             0,
             Number::Completed,
         ),
-        (bad_lengths, STORE_PREFIX, 0, Number::BadLengths),
-        (bad_record, STORE_PREFIX, 0, Number::BadProcessor),
-        (
-            in_problem_state,
-            STORE_PREFIX,
-            0,
-            Number::PrivilegedOperation,
-        ),
+        (bad_lengths, STORE_PREFIX, 0, Number::Configuration),
+        (bad_record, STORE_PREFIX, 0, Number::Record),
+        (in_problem_state, STORE_PREFIX, 0, Number::Privileged),
         (without_control, STORE_PREFIX, 0, Number::Completed),
     ]);
 }
@@ -335,7 +310,7 @@ fn lengths_of_storage_and_keys<U: Unit>() {
             let number = if good {
                 Number::Completed
             } else {
-                Number::BadLengths
+                Number::Configuration
             };
             assert_eq!(
                 lent.request::<U>(0, &request, &mut [0; 4]).number,
@@ -351,7 +326,7 @@ fn processor_numbers_and_records<U: Unit>() {
     for request in one_of_each() {
         for processor in [2, 3, 256, 65_536, 1 << 31, u32::MAX] {
             let given = answer::<U>(&usual(), processor, request, 4);
-            assert_eq!(given, Answer::refused(Number::BadProcessor, 0));
+            assert_eq!(given, Answer::refused(Number::Record, 0));
         }
         for fault in 0..8 {
             for own in 0..2 {
@@ -370,7 +345,7 @@ fn processor_numbers_and_records<U: Unit>() {
                 let before = lent.clone();
                 let mut buffer = [9; 4];
                 let given = lent.request::<U>(own as u32, &request, &mut buffer);
-                assert_eq!(given, Answer::refused(Number::BadProcessor, 0));
+                assert_eq!(given, Answer::refused(Number::Record, 0));
                 assert!(lent == before && buffer == [9; 4]);
                 let given = answer::<U>(&before, 1 - own as u32, request, 4);
                 assert_eq!(given.number, Number::Completed, "{request:?}");
@@ -661,7 +636,7 @@ fn accesses_in_problem_state<U: Unit>() {
     for request in one_of_each() {
         let number = match request {
             Request::Access { .. } => Number::Completed,
-            _ => Number::PrivilegedOperation,
+            _ => Number::Privileged,
         };
         assert_eq!(answer::<U>(&before, 0, request, 4).number, number);
     }
@@ -671,8 +646,8 @@ fn accesses_in_problem_state<U: Unit>() {
 fn buffers<U: Unit>() {
     let before = usual();
     for request in [Request::fetch(0, 4), Request::store(0, 4)] {
-        refused::<U>(&before, request, &[7; 3], Number::BadRequest, 0);
-        refused::<U>(&before, request, &[], Number::BadRequest, 0);
+        refused::<U>(&before, request, &[7; 3], Number::Operand, 0);
+        refused::<U>(&before, request, &[], Number::Operand, 0);
     }
     let mut after = before.clone();
     after.keys[0] = 0x04;
@@ -781,7 +756,7 @@ fn address_sizes<U: Unit>() {
         refused::<U>(&before, request, &[], Number::Addressing, 0);
     }
     for request in [rrb(16_777_216), rrb(u32::MAX)] {
-        refused::<U>(&before, request, &[], Number::BadRequest, 0);
+        refused::<U>(&before, request, &[], Number::Operand, 0);
     }
     for request in [
         Request::fetch(16_777_216, 1),
@@ -791,7 +766,7 @@ fn address_sizes<U: Unit>() {
         Request::fetch(0, u32::MAX),
         Request::store(u32::MAX, u32::MAX),
     ] {
-        refused::<U>(&before, request, &[7; 300], Number::BadRequest, 0);
+        refused::<U>(&before, request, &[7; 300], Number::Operand, 0);
     }
     let mut after = before.clone();
     after.keys[8191] = 0x70;
@@ -951,14 +926,8 @@ fn new_prefix_holds<U: Unit>() {
 
 /// SET PREFIX cannot mend a bad prefix.
 fn bad_prefix_stays<U: Unit>() {
-    refused::<U>(
-        &with_prefix(65_536),
-        set_prefix(0),
-        &[],
-        Number::BadProcessor,
-        0,
-    );
-    refused::<U>(&with_prefix(4), STORE_PREFIX, &[], Number::BadProcessor, 0);
+    refused::<U>(&with_prefix(65_536), set_prefix(0), &[], Number::Record, 0);
+    refused::<U>(&with_prefix(4), STORE_PREFIX, &[], Number::Record, 0);
 }
 
 /// Without the extensions, everything but the three extended instructions completes.

@@ -292,8 +292,8 @@ impl Seen {
                 self.completed += u64::from(completed);
                 self.ended_with_4 += u64::from(answer.number == Number::Protection);
                 self.wrong_processor_numbers += u64::from(turn.processor > 1);
-                refused_by[0] |= answer.number == Number::BadLengths;
-                refused_by[1] |= answer.number == Number::BadProcessor && turn.processor < 2;
+                refused_by[0] |= answer.number == Number::Configuration;
+                refused_by[1] |= answer.number == Number::Record && turn.processor < 2;
                 match turn.request {
                     Request::Key(_) => self.completed_key_instructions += u64::from(completed),
                     Request::Prefix(PrefixInstruction::SetPrefix { .. }) => {

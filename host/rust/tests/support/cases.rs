@@ -114,11 +114,6 @@ macro_rules! for_each_unit {
             @module plain_behind_boundary,
             storage_unit::plain::PlainBehindBoundary: $($case)*
         );
-        #[cfg(proved_unit)]
         for_each_unit!(@module proved, storage_unit::proved::Proved: $($case)*);
-        #[cfg(not(proved_unit))]
-        #[test]
-        #[ignore = "the static library of the proved unit is missing"]
-        fn proved() {}
     };
 }

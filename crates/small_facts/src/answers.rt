@@ -4,10 +4,10 @@ use machine::Reason;
 ghost use mathlib.Core.Path.{_≡_};
 ghost use Rattle.machine.specs.Answers.{numberOf, placeOf, wordOf, number as numberIs};
 
-pub struct Values {
-    pub number: u32,
-    pub place: u32,
-    pub word: u32,
+pub(crate) struct Values {
+    pub(crate) number: u32,
+    pub(crate) place: u32,
+    pub(crate) word: u32,
 }
 
 fn number(reason: Reason) -> u32
@@ -27,7 +27,7 @@ fn number(reason: Reason) -> u32
     }
 }
 
-pub fn values_of(answer: Answer) -> Values
+pub(crate) fn values_of(answer: Answer) -> Values
     ensures { λ r. ⌜ (r .number ≡ numberOf answer) × ((r .place ≡ placeOf answer) × (r .word ≡ wordOf answer)) ⌝ }
 {
     match answer {

@@ -13,7 +13,7 @@ use machine::Settings;
 // Every byte of the buffer. Storage is zero before the request.
 const BYTE: u8 = 0xA5;
 
-pub struct Case {
+pub(crate) struct Case {
     processor: Processor,
     // The keys of the first two units; the others are zero.
     first_key: u8,
@@ -21,15 +21,15 @@ pub struct Case {
     request: Request,
 }
 
-pub struct Seen {
-    pub answer: Values,
-    pub code: u8,
-    pub first_key: u8,
-    pub second_key: u8,
+pub(crate) struct Seen {
+    pub(crate) answer: Values,
+    pub(crate) code: u8,
+    pub(crate) first_key: u8,
+    pub(crate) second_key: u8,
 }
 
 // 2K units, extensions present.
-pub fn settings() -> Settings {
+pub(crate) fn settings() -> Settings {
     Settings {
         four_k: false,
         extensions: true,
@@ -37,7 +37,7 @@ pub fn settings() -> Settings {
 }
 
 // A processor in supervisor state with PSW key 0 and bit 3 off.
-pub fn processor(prefix: u32) -> Processor {
+pub(crate) fn processor(prefix: u32) -> Processor {
     Processor {
         key: 0,
         problem: false,
@@ -57,37 +57,37 @@ fn case_of(request: Request) -> Case {
     }
 }
 
-pub fn fetch(start: u32, count: u32) -> Case {
+pub(crate) fn fetch(start: u32, count: u32) -> Case {
     let kind = AccessKind::Fetch;
     case_of(Request::Access { kind, start, count })
 }
 
-pub fn store(start: u32, count: u32) -> Case {
+pub(crate) fn store(start: u32, count: u32) -> Case {
     let kind = AccessKind::Store;
     case_of(Request::Access { kind, start, count })
 }
 
-pub fn key(instruction: KeyInstruction) -> Case {
+pub(crate) fn key(instruction: KeyInstruction) -> Case {
     case_of(Request::Key(instruction))
 }
 
 impl Case {
-    pub fn psw_key(mut self, key: u8) -> Self {
+    pub(crate) fn psw_key(mut self, key: u8) -> Self {
         self.processor.key = key;
         self
     }
 
-    pub fn low_protection(mut self) -> Self {
+    pub(crate) fn low_protection(mut self) -> Self {
         self.processor.low_protection = true;
         self
     }
 
-    pub fn prefix(mut self, prefix: u32) -> Self {
+    pub(crate) fn prefix(mut self, prefix: u32) -> Self {
         self.processor.prefix = prefix;
         self
     }
 
-    pub fn keys(mut self, first: u8, second: u8) -> Self {
+    pub(crate) fn keys(mut self, first: u8, second: u8) -> Self {
         self.first_key = first;
         self.second_key = second;
         self
@@ -111,7 +111,7 @@ impl Case {
     }
 
     // What the request answers, and what it leaves in its record and in the first two keys.
-    pub fn seen(self) -> Seen {
+    pub(crate) fn seen(self) -> Seen {
         let mut storage = io::large_buffer();
         let mut keys = self.key_array();
         let mut buffer = [BYTE; 300];
@@ -128,7 +128,7 @@ impl Case {
     }
 
     // The first absolute address at which the request changes storage; the length of storage where it changes none.
-    pub fn absolute(self) -> usize {
+    pub(crate) fn absolute(self) -> usize {
         let before = io::large_buffer();
         let mut storage = io::large_buffer();
         let mut keys = self.key_array();
@@ -138,7 +138,7 @@ impl Case {
     }
 
     // Storage, keys, both records and the buffer are as they were.
-    pub fn unchanged(self) -> bool {
+    pub(crate) fn unchanged(self) -> bool {
         let before = io::large_buffer();
         let mut storage = io::large_buffer();
         let mut keys = self.key_array();

@@ -10,7 +10,7 @@ fn least(a: usize, b: usize) -> usize
 }
 
 // The first index at which two slices differ; where there is none, the shorter length.
-pub fn difference(a: &[u8], b: &[u8]) -> usize {
+pub(crate) fn difference(a: &[u8], b: &[u8]) -> usize {
     let n = least(a.len(), b.len());
     for i in 0..n {
         if a[i] != b[i] {
@@ -29,7 +29,7 @@ fn same_record(p: Processor, q: Processor) -> bool {
         & (p.code == q.code)
 }
 
-pub fn same_records(p: [Processor; 2], q: [Processor; 2]) -> bool {
+pub(crate) fn same_records(p: [Processor; 2], q: [Processor; 2]) -> bool {
     same_record(p[0], q[0]) & same_record(p[1], q[1])
 }
 
@@ -37,7 +37,7 @@ fn same_answer(a: Values, b: Values) -> bool {
     (a.number == b.number) & (a.place == b.place) & (a.word == b.word)
 }
 
-pub fn same_answers(a: [Values; 4], b: [Values; 4]) -> bool {
+pub(crate) fn same_answers(a: [Values; 4], b: [Values; 4]) -> bool {
     same_answer(a[0], b[0])
         & same_answer(a[1], b[1])
         & same_answer(a[2], b[2])

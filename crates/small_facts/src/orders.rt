@@ -123,7 +123,7 @@ fn agrees(a: usize, b: usize, c: usize, d: usize) -> bool
 }
 
 // Fact 19.
-pub fn disjoint() {
+pub(crate) fn disjoint() {
     number(b"19 absolute ", absolute(turn_of(0)));
     number(b"; ", absolute(turn_of(2)));
     if agrees(0, 2, 1, 3)
@@ -149,7 +149,7 @@ fn left_by(first: Turn, second: Turn) -> u8 {
 }
 
 // Fact 20.
-pub fn shared() {
+pub(crate) fn shared() {
     let first = Turn {
         number: 0,
         start: 0,

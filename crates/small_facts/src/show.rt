@@ -27,7 +27,7 @@ fn decimal(n: usize) {
 }
 
 // Writes a text and a number.
-pub fn number(text: &[u8], n: usize) {
+pub(crate) fn number(text: &[u8], n: usize) {
     io::write_all(1, text);
     decimal(n);
 }
@@ -47,7 +47,7 @@ fn value(letter: u8, seen: Seen) {
 }
 
 // Runs a case and writes a text, in which % and a letter mark the place of a value.
-pub fn show(text: &[u8], case: Case) {
+pub(crate) fn show(text: &[u8], case: Case) {
     let seen = case.seen();
     let mut marked = false;
     for i in 0..text.len() {
@@ -64,13 +64,13 @@ pub fn show(text: &[u8], case: Case) {
 }
 
 // Runs a case and writes where it changes storage.
-pub fn absolute(text: &[u8], case: Case) {
+pub(crate) fn absolute(text: &[u8], case: Case) {
     number(text, case.absolute());
     io::write_all(1, b"\n");
 }
 
 // Runs a case and writes whether it changes anything.
-pub fn changes(case: Case) {
+pub(crate) fn changes(case: Case) {
     if case.unchanged() {
         io::write_all(1, b"nothing changed\n");
     } else {

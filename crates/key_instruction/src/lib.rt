@@ -63,7 +63,7 @@ fn perform(keys: &mut [u8], p: Processor, u: usize, two: bool, operation: KeyOpe
 }
 
 // A key instruction for the processor with this number and the record p. It takes no buffer, and of storage the length alone: for every
-// storage of this length, every buffer and every pair in which the processor has this record, what is left is what the step leaves.
+// storage of this length, every buffer and every list of records in which the processor has this one, what is left is what the step leaves.
 pub fn key_instruction(
     settings: Settings,
     storage_length: usize,

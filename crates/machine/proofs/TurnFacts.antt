@@ -1,5 +1,6 @@
 -- Rows 19 and 20 of the table of small facts, on every storage of 65,536 bytes and whatever the bytes stored. Row 19 follows from the claim
--- about any order, and row 20 shows that the claim needs its hypothesis. The steps are computed. Assumes nothing.
+-- about any order, and row 20 shows that the claim needs its hypothesis. The steps are computed. Beside them, fetches of any addresses, which
+-- may share their units. Assumes nothing.
 use mathlib.Core.Path.{_≡_, refl, sym, ap, _∙_}
 use mathlib.Core.Bool.{true, false}
 use mathlib.Core.Logic.{_≢_, inl, inr}
@@ -13,7 +14,7 @@ use borrow.Author.Tests.{ne-eqb}
 use Rattle.machine.specs.declared.Settings.{Settings}
 use Rattle.machine.specs.declared.Processor.{Processor}
 use Rattle.machine.specs.declared.Request.the-variants.{Access}
-use Rattle.machine.specs.declared.AccessKind.the-variants.{Store}
+use Rattle.machine.specs.declared.AccessKind.the-variants.{Fetch, Store}
 use Rattle.machine.specs.Numbers.{written}
 use Rattle.machine.specs.Key.{afterStore}
 use Rattle.machine.specs.Answers.{line, firstOf, firstByte, firstLine}
@@ -83,3 +84,11 @@ module _ (storage : List ℕ) (h : length storage ≡ 65536) where
     pub shared-unit : ¬ ((u : ℕ) → Apart settings (start storage) (store 0 0 a ∷ []) (store 1 4096 b ∷ []) u)
     shared-unit apart =
         order-matters (ap (λ e. e .state .storage) (any-order settings (start storage) _ _ (inl refl, tt) (inl refl, tt) apart secondLast firstLast))
+
+-- a fetch of each processor, from any start and at any addresses: what they name, they name by fetches only, and both orders agree
+module _ (s : Settings) (m : State) (real real' count count' : ℕ) (buffer buffer' : List ℕ) where
+  abbrev fetch : ℕ → ℕ → ℕ → List ℕ → Turn
+  fetch n a k bytes = record { number = n; request = Access Fetch a k; buffer = bytes }
+
+  pub fetches-agree : (o p : Order (fetch 0 real count buffer ∷ []) (fetch 1 real' count' buffer' ∷ [])) → run (next s) (given s) m o ≡ run (next s) (given s) m p
+  fetches-agree = any-order s m _ _ (inl refl, tt) (inl refl, tt) (λ u. inr (inr (((λ _. refl), tt), ((λ _. refl), tt))))

@@ -14,8 +14,8 @@ ghost use Rattle.machine.specs.Numbers.{own as recordOf};
 ghost use Rattle.machine.specs.Step.{outcome, step};
 ghost use Rattle.machine.specs.Conditions.{Condition1};
 
-// One request for the processor with this number and the record p, over lent storage, keys and buffer. For every pair in which the
-// processor has this record, what is left is what the step leaves; no other record is looked at.
+// One request for the processor with this number and the record p, over lent storage, keys and buffer. For every list of records in which
+// the processor has this one, what is left is what the step leaves; no other record is looked at.
 pub fn serve(
     settings: Settings,
     storage: &mut [u8],

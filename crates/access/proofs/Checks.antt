@@ -1,11 +1,11 @@
 -- The table of an access by unit is the table by byte: of the bytes in one unit the first decides. Assumes nothing.
 use Prim.Native.Nat.{ℕ, _-_, _%_, _<_, _≤_}
-use mathlib.Core.Path.{_≡_, refl}
-use mathlib.Core.Bool.{Bool, true, false, cond, _&&_}
+use mathlib.Core.Path.{_≡_, refl, _∙_}
+use mathlib.Core.Bool.{Bool, true, false, cond, not, _&&_}
 use mathlib.Core.List.{List}
 use native.Mathlib.Omega.{arith}
 use native.Mathlib.Decide.{decLt, decLe}
-use borrow.Author.Tests.{le-leb, ltb-false, leb-false, le-ltb, lt-leb}
+use borrow.Author.Tests.{le-leb, ltb-false, leb-false, le-ltb, lt-leb, not-false}
 use lib.Dec.{leb, ltb}
 use lib.ListN.{length, getD}
 use Rattle.machine.specs.declared.Settings.{Settings}
@@ -22,10 +22,11 @@ use Rattle.machine.specs.Answers.{line, firstOf, firstByte, firstLine}
 use Rattle.machine.specs.Prefixing.{byteAt}
 use Rattle.machine.specs.Protection.{lowProtected, forbidden}
 use Rattle.machine.specs.Table.{operandInvalid, absoluteOutside, addressing, absoluteAddressing, protection, plan, verdict}
-use Rattle.machine.proofs.Verdicts.{both, neither, first-assoc, bytes-none, bytes-stop}
+use Rattle.machine.proofs.Verdicts.{both, neither, line-clear, first-clear, first-none, first-assoc, bytes-none, bytes-stop}
 use Rattle.machine.proofs.Plans.{configured, operands-passed}
 use Rattle.machine.proofs.AbsoluteAddress.{absolute-inside}
-use Rattle.access.specs.Runs.{left, twoTests, linesByUnit}
+use Rattle.access.specs.Runs.{left, partAt, firstLines, linesOfOne, twoTests, linesOfTwo}
+use Rattle.access.specs.Admitted.{Admitted}
 use Rattle.access.proofs.Runs.{Run, run-first, run-second, real-below, real-step, unit-same}
 
 -- where the test fails at byte 0 it fails before byte k, and where it fails at byte k too it fails everywhere
@@ -81,14 +82,35 @@ module _ (s : Settings) (start : ℕ) where
       (λ i h. later 0 i (run-first s start i h))
       (λ i h l. later (left s start) i (run-second s start i h (omega arith)))
 
+-- a line that never applies does not count
+no-line : (r : Reason) (w : Verdict) → firstOf (line r false) w ≡ w
+unfolding line firstOf
+no-line r w = refl
+
+-- where the first verdict stops, the second does not count
+first-same : (v u w : Verdict) → (v ≡ Clear → u ≡ w) → firstOf v u ≡ firstOf v w
+unfolding firstOf
+first-same Clear u w e = e refl
+first-same (Stop r p) u w e = refl
+
+-- lines 5, 67 and 4 of an access by unit
+abbrev pub linesByUnit : Settings → ℕ → List ℕ → Processor → AccessKind → ℕ → ℕ → Verdict
+linesByUnit s m keys p kind start count =
+    cond (leb count (left s start))
+    (linesOfOne m p kind (partAt s keys p start 0))
+    (linesOfTwo m p kind (partAt s keys p start 0) (left s start) (partAt s keys p start (left s start)))
+
 -- lines 5, 67 and 4 by unit are the lines by byte, where lines 64 to 66 pass
 module _ (s : Settings) (m keyLength : ℕ) (keys : List ℕ) (p : Processor) (kind : AccessKind) (start count : ℕ)
-    (lengths : lengthsValid s m keyLength ≡ true) (own : recordValid m p ≡ true) (some : 0 < count) (short : count ≤ 256) where
+    (b : ℕ) (h : Admitted s m keyLength p kind start count b) where
   inside : (f i : ℕ) → Run s start f i → leb m (add24 start f) ≡ false → leb m (add24 start i) ≡ false
-  inside = inside-later s start m (configured s m keyLength p lengths own .whole)
+  inside = inside-later s start m (configured s m keyLength p (h .lengths) (h .owned) .whole)
 
   absolute : (f i : ℕ) → Run s start f i → absoluteOutside m p (add24 start f) ≡ false → absoluteOutside m p (add24 start i) ≡ false
-  absolute f i r q = absolute-inside s m keyLength p lengths own (add24 start i)
+  absolute f i r q = absolute-inside s m keyLength p (h .lengths) (h .owned) (add24 start i)
+
+  operands : (0 < count) × (count ≤ 256) × (count ≤ b)
+  operands = operands-passed kind start count b (h .operands)
 
   lines-by-unit : linesByUnit s m keys p kind start count
       ≡ firstOf (addressing m (Access kind start count))
@@ -99,43 +121,63 @@ module _ (s : Settings) (m keyLength : ℕ) (keys : List ℕ) (p : Processor) (k
       go : Dec (count ≤ left s start) → linesByUnit s m keys p kind start count
           ≡ firstOf (addressing m (Access kind start count))
           (firstOf (absoluteAddressing m p (Access kind start count)) (protection s keys p (Access kind start count)))
-      go (yes h) =
+      go (yes l) =
           rw (
-            le-leb count (left s start) h,
-            by-one s start count some h Addressing (λ i. leb m (add24 start i)) inside,
-            by-one s start count some h AbsoluteAddress (λ i. absoluteOutside m p (add24 start i)) absolute,
-            by-one s start count some h Protection (λ i. forbidden kind p (add24 start i) (getD keys (unitOf s (byteAt p start i)) 0)) (permitted-later s start p keys kind),
+            le-leb count (left s start) l,
+            by-one s start count (operands .0) l Addressing (λ i. leb m (add24 start i)) inside,
+            by-one s start count (operands .0) l AbsoluteAddress (λ i. absoluteOutside m p (add24 start i)) absolute,
+            by-one s start count (operands .0) l Protection (λ i. forbidden kind p (add24 start i) (getD keys (unitOf s (byteAt p start i)) 0)) (permitted-later s start p keys kind),
           )
-      go (no h) =
+      go (no l) =
           let more : left s start < count = omega arith in
           rw (
             lt-leb count (left s start) more,
-            by-two s start count more short Addressing (λ i. leb m (add24 start i)) inside,
-            by-two s start count more short AbsoluteAddress (λ i. absoluteOutside m p (add24 start i)) absolute,
-            by-two s start count more short Protection (λ i. forbidden kind p (add24 start i) (getD keys (unitOf s (byteAt p start i)) 0)) (permitted-later s start p keys kind),
+            by-two s start count more (operands .1) Addressing (λ i. leb m (add24 start i)) inside,
+            by-two s start count more (operands .1) AbsoluteAddress (λ i. absoluteOutside m p (add24 start i)) absolute,
+            by-two s start count more (operands .1) Protection (λ i. forbidden kind p (add24 start i) (getD keys (unitOf s (byteAt p start i)) 0)) (permitted-later s start p keys kind),
           )
 
--- the verdict of the table where the first of lines 64, 65 and 66 that applies is known, and where none does
+-- the table of an access: lines 64, 65 and 66, then the other lines by unit
 module _ (s : Settings) (m : ℕ) (keys : List ℕ) (n : ℕ) (p : Processor) (kind : AccessKind) (start count b : ℕ) where
-  abbrev table : Verdict
-  table = verdict s m keys n p (Access kind start count) b
+  pub admitted : firstLines s m (length keys) n p kind start count b ≡ Clear → Admitted s m (length keys) p kind start count b
+  admitted e =
+      let (before, operands) = first-clear _ _ e in
+      let (lengths, owned) = first-clear _ _ before in
+      record {
+        lengths = not-false _ (line-clear _ _ lengths);
+        owned = both (ltb n 2) _ (not-false _ (line-clear _ _ owned)) .1;
+        operands = line-clear _ _ operands;
+      }
 
-  pub refused-by-64 : lengthsValid s m (length keys) ≡ false → Stop Configuration 0 ≡ table
-  unfolding line firstOf firstLine plan verdict
-  refused-by-64 ex = rw ex
+  -- the table is its first three lines and the rest, of which nothing counts where one of the three applies
+  table-in-two : firstOf (firstLines s m (length keys) n p kind start count b)
+      (firstOf (addressing m (Access kind start count)) (firstOf (absoluteAddressing m p (Access kind start count)) (protection s keys p (Access kind start count))))
+      ≡ verdict s m keys n p (Access kind start count) b
+  unfolding firstLine plan verdict
+  table-in-two = simp (first-assoc, first-none, no-line)
 
-  pub refused-by-65 : lengthsValid s m (length keys) ≡ true → (ltb n 2 && recordValid m p) ≡ false → Stop Record 0 ≡ table
-  unfolding line firstOf firstLine plan verdict
-  refused-by-65 ex ey = rw (ex, ey)
+  pub table-by-unit : firstOf (firstLines s m (length keys) n p kind start count b) (linesByUnit s m keys p kind start count)
+      ≡ verdict s m keys n p (Access kind start count) b
+  table-by-unit = first-same _ _ _ (λ e. lines-by-unit s m (length keys) keys p kind start count b (admitted e)) ∙ table-in-two
 
-  pub refused-by-66 : lengthsValid s m (length keys) ≡ true → (ltb n 2 && recordValid m p) ≡ true
-      → operandInvalid (Access kind start count) b ≡ true → Stop Operand 0 ≡ table
-  unfolding line firstOf firstLine plan verdict
-  refused-by-66 ex ey ez = rw (ex, ey, ez)
+  -- where lines 64, 65 and 66 let it pass, the others decide
+  pub table-of-admitted : Admitted s m (length keys) p kind start count b → ltb n 2 ≡ true
+      → linesByUnit s m keys p kind start count ≡ verdict s m keys n p (Access kind start count) b
+  unfolding line firstOf
+  table-of-admitted h e = rw (h .lengths, e, h .owned, h .operands) at table-by-unit
 
-  pub by-unit : lengthsValid s m (length keys) ≡ true → (ltb n 2 && recordValid m p) ≡ true
-      → operandInvalid (Access kind start count) b ≡ false → linesByUnit s m keys p kind start count ≡ table
-  unfolding line firstOf firstLine plan verdict
-  by-unit ex ey ez =
-      let (some, short, buffered) = operands-passed kind start count b ez in
-      rw (ex, ey, ez, lines-by-unit s m (length keys) keys p kind start count ex (both (ltb n 2) _ ey .1) some short) (simp first-assoc)
+  -- the verdict of the table on an access that one of them refuses, on one in one unit and on one in two
+  pub refused-first : {r : Reason} {place : ℕ} → firstLines s m (length keys) n p kind start count b ≡ Stop r place
+      → Stop r place ≡ verdict s m keys n p (Access kind start count) b
+  unfolding firstOf
+  refused-first e = rw e at table-by-unit
+
+  pub table-of-one : firstLines s m (length keys) n p kind start count b ≡ Clear → count ≤ left s start
+      → linesOfOne m p kind (partAt s keys p start 0) ≡ verdict s m keys n p (Access kind start count) b
+  unfolding firstOf
+  table-of-one e l = rw (e, le-leb count (left s start) l) at table-by-unit
+
+  pub table-of-two : (k : ℕ) → firstLines s m (length keys) n p kind start count b ≡ Clear → k ≡ left s start → k < count
+      → linesOfTwo m p kind (partAt s keys p start 0) k (partAt s keys p start k) ≡ verdict s m keys n p (Access kind start count) b
+  unfolding firstOf
+  table-of-two k e q l = rw q (rw (e, lt-leb count (left s start) (rw q at l)) at table-by-unit)

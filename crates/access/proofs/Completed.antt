@@ -1,4 +1,5 @@
 -- An access that the table lets pass: its runs fit, and together they are the whole access; recording two units records all that it touches.
+-- What it leaves is then what the verdict on it says.
 -- Assumes nothing.
 use Prim.Native.Nat.{ℕ, zero, suc, _+_, _-_, _<_, _≤_}
 use mathlib.Core.Path.{_≡_, refl, sym, ap, _∙_}
@@ -12,23 +13,25 @@ use Rattle.machine.specs.declared.Processor.{Processor}
 use Rattle.machine.specs.declared.AccessKind.{AccessKind}
 use Rattle.machine.specs.declared.AccessKind.the-variants.{Fetch, Store}
 use Rattle.machine.specs.declared.Request.the-variants.{Access}
-use Rattle.machine.specs.declared.Verdict.the-variants.{Clear}
-use Rattle.machine.specs.declared.Answer.the-variants.{Completed}
-use Rattle.machine.specs.Numbers.{own, unitOf, add24, written}
+use Rattle.machine.specs.declared.Reason.{Reason}
+use Rattle.machine.specs.declared.Verdict.{Verdict}
+use Rattle.machine.specs.declared.Verdict.the-variants.{Clear, Stop}
+use Rattle.machine.specs.declared.Answer.the-variants.{Completed, Refused}
+use Rattle.machine.specs.Numbers.{unitOf, add24, written}
 use Rattle.machine.specs.Prefixing.{byteAt}
 use Rattle.machine.specs.Protection.{recorded}
-use Rattle.machine.specs.Table.{plan, verdict}
-use Rattle.machine.specs.Step.{outcome, storageLeft, bufferLeft, keysRecorded, completed, step}
+use Rattle.machine.specs.Table.{plan}
+use Rattle.machine.specs.Step.{storageLeft, bufferLeft, keysRecorded, completed, performed}
 use Rattle.machine.proofs.Written.{written-after, written-once}
 use Rattle.machine.proofs.Plans.{clear-plan, Passed, access-passed, access-keyed}
-use Rattle.machine.proofs.Requests.{completed-request}
 use Rattle.access.specs.Runs.{left}
-use Rattle.access.specs.Recordable.{Recordable}
+use Rattle.access.specs.Admitted.{Admitted, Performed}
+use Rattle.access.proofs.Checks.{linesByUnit, table-of-admitted}
 use Rattle.access.proofs.Moves.{one-run, two-runs}
 use Rattle.access.proofs.Runs.{Run, left-positive, run-first, run-second, real-step, byte-step, unit-same}
 
 -- n bytes from byte f on fit the m bytes of storage and the b bytes of a buffer, and do not wrap
-abbrev Fits : Processor → ℕ → ℕ → ℕ → ℕ → ℕ → Type 0
+abbrev pub Fits : Processor → ℕ → ℕ → ℕ → ℕ → ℕ → Type 0
 Fits p start f n m b = (byteAt p start f + n ≤ m) × ((f + n ≤ b) × ((n ≤ 256) × (add24 start f + n ≤ 16777216)))
 
 -- the runs that an access is moved in: one that ends in the first unit, or the first unit's part and the rest
@@ -104,7 +107,7 @@ module _ (f : ℕ → ℕ) (keys : List ℕ) (unit : ℕ → ℕ) where
       ∙ ap (written keys unit value) (omega arith)
 
 -- the keys of an access in one unit and of one in two
-module _ (s : Settings) (keyLength : ℕ) (p : Processor) (start count : ℕ) (h : Recordable s keyLength p start count) (kind : AccessKind) (keys : List ℕ) where
+module _ (s : Settings) (p : Processor) (start count : ℕ) (some : 0 < count) (short : count ≤ 256) (kind : AccessKind) (keys : List ℕ) where
   abbrev unit : ℕ → ℕ
   unit i = unitOf s (byteAt p start i)
 
@@ -118,7 +121,7 @@ module _ (s : Settings) (keyLength : ℕ) (p : Processor) (start count : ℕ) (h
   unfolding keysRecorded
   one-recorded l =
       sym (written-once keys unit mark (unit 0) (mark 0) (count - 1) (λ i k. same-mark 0 i (run-first s start i (omega arith))))
-      ∙ ap (written keys unit mark) (omega (arith, h .some))
+      ∙ ap (written keys unit mark) (omega arith)
 
   pub two-recorded : left s start < count
       → set (set keys (unit 0) (mark 0)) (unit (left s start)) (mark (left s start)) ≡ keysRecorded s kind keys p start count
@@ -126,31 +129,28 @@ module _ (s : Settings) (keyLength : ℕ) (p : Processor) (start count : ℕ) (h
   two-recorded l =
       both-marked (recorded kind) keys unit (left s start) count l
       (λ i k. same-mark 0 i (run-first s start i k) .0)
-      (λ i k m. same-mark (left s start) i (run-second s start i k (omega (arith, h .short))) .0)
+      (λ i k m. same-mark (left s start) i (run-second s start i k (omega arith)) .0)
 
--- what the routines ask of their parts, from a clear verdict, p being the record of processor n; m and b are the lengths of storage and
--- buffer
-module _ (s : Settings) (m : ℕ) (keys : List ℕ) (n : ℕ) (p : Processor) (kind : AccessKind) (start count b : ℕ)
-    (clear : verdict s m keys n p (Access kind start count) b ≡ Clear) where
-  planned : plan s m (length keys) n p (Access kind start count) b ≡ Clear
-  planned = clear-plan s m keys n p (Access kind start count) b clear
+-- what is known of an access that lines 64, 65 and 66 and the lines by unit let pass; m and b are the lengths of storage and buffer
+module _ (s : Settings) (m : ℕ) (keys : List ℕ) (p : Processor) (kind : AccessKind) (start count b : ℕ)
+    (h : Admitted s m (length keys) p kind start count b) (clear : linesByUnit s m keys p kind start count ≡ Clear) where
+  planned : plan s m (length keys) 0 p (Access kind start count) b ≡ Clear
+  planned = clear-plan s m keys 0 p (Access kind start count) b (sym (table-of-admitted s m keys 0 p kind start count b h refl) ∙ clear)
 
-  pub bytes-may-move : Passed m p start count b
-  bytes-may-move = access-passed s m (length keys) n p kind start count b planned
+  pub passed : Passed m p start count b
+  passed = access-passed s m (length keys) 0 p kind start count b planned
 
-  pub keys-may-change : Recordable s (length keys) p start count
-  keys-may-change =
-      record {
-        some = bytes-may-move .some;
-        short = bytes-may-move .short;
-        keyed = access-keyed s m (length keys) n p kind start count b planned;
-      }
+  pub keyed : (i : ℕ) → i < count → unitOf s (byteAt p start i) < length keys
+  keyed = access-keyed s m (length keys) 0 p kind start count b planned
 
--- and that it gives what the step gives
-pub completed-access : (s : Settings) (storage keys : List ℕ) (ps : List Processor) (n : ℕ) (p : Processor) (kind : AccessKind) (start count : ℕ) (buffer : List ℕ)
-    → own ps n ≡ p → verdict s (length storage) keys n p (Access kind start count) (length buffer) ≡ Clear
-    → outcome (Completed 0) (storageLeft kind storage p start count buffer) (keysRecorded s kind keys p start count) ps (bufferLeft kind storage p start count buffer)
-    ≡ step s storage keys ps n (Access kind start count) buffer
-unfolding completed
-completed-access s storage keys ps n p kind start count buffer e clear =
-    completed-request s storage keys ps n (Access kind start count) buffer (sym e) refl clear
+-- what is left by a verdict
+module _ (s : Settings) (storage keys : List ℕ) (p : Processor) (kind : AccessKind) (start count : ℕ) (buffer : List ℕ) {v : Verdict} where
+  pub access-completed : v ≡ Clear
+      → Performed v s p kind start count storage keys buffer (Completed 0) (storageLeft kind storage p start count buffer) (keysRecorded s kind keys p start count) (bufferLeft kind storage p start count buffer)
+  unfolding performed completed
+  access-completed clear ps n e = rw (clear, e)
+
+  pub access-refused : {reason : Reason} {place : ℕ} → v ≡ Stop reason place
+      → Performed v s p kind start count storage keys buffer (Refused reason place) storage keys buffer
+  unfolding performed
+  access-refused stop ps n e = rw stop

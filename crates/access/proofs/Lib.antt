@@ -3,3 +3,4 @@ pub mod Runs
 pub mod Checks
 pub mod Moves
 pub mod Completed
+pub mod Parts

@@ -1,7 +1,6 @@
-// The table of answers for an access. An access touches at most two units, and each line is tested at byte 0 and, where there is a second
-// unit, at the first byte in it.
-use crate::address::left;
-use crate::address::unit_at;
+// The table of answers for an access. Lines 64, 65 and 66 test the request as a whole. Lines 5, 67 and 4 are tested at the first byte of each
+// part, of one or of two.
+use crate::part::Part;
 use machine::AccessKind;
 use machine::Processor;
 use machine::Reason;
@@ -9,18 +8,84 @@ use machine::Request;
 use machine::Settings;
 use machine::Verdict;
 use machine::answers::first_of;
-use machine::numbers::lengths_valid;
-use machine::numbers::record_valid;
-use prefixing::absolute;
-use prefixing::add24;
+use machine::answers::refuse;
+use machine::numbers::valid;
 use storage_key::forbidden;
 ghost use mathlib.Core.Path.{_≡_};
-ghost use lib.ListN.{getD};
-ghost use Rattle.machine.specs.Numbers.{unitOf};
-ghost use Rattle.machine.specs.Prefixing.{byteAt};
-ghost use Rattle.machine.specs.Table.{operandInvalid, absoluteOutside, verdict as verdictOf};
-ghost use Rattle.access.specs.Runs.{twoTests, linesOfOne, linesOfTwo, linesByUnit};
+ghost use Rattle.machine.specs.Table.{operandInvalid};
+ghost use Rattle.access.specs.Runs.{outside as isOutside, absoluteOutside, twoTests, firstLines, linesOfOne, linesOfTwo};
 
+// Line 66.
+fn operand_invalid(kind: AccessKind, start: u32, count: u32, buffer_length: usize) -> bool
+    ensures { λ r. ⌜ r ≡ operandInvalid (Request.Access kind start count) «buffer_length» ⌝ }
+{
+    (count == 0) | (256 < count) | (16777216 <= start) | (buffer_length < count as usize)
+}
+
+// Lines 64, 65 and 66, p being the record of the processor with this number.
+pub(crate) fn first_lines(
+    settings: Settings,
+    storage_length: usize,
+    key_length: usize,
+    number: usize,
+    p: Processor,
+    kind: AccessKind,
+    start: u32,
+    count: u32,
+    buffer_length: usize,
+) -> Verdict
+    ensures { λ r. ⌜ r ≡ firstLines settings «storage_length» «key_length» number p kind start count «buffer_length» ⌝ }
+{
+    let machine = valid(settings, storage_length, key_length, number, p);
+    let invalid = operand_invalid(kind, start, count, buffer_length);
+    first_of(machine, refuse(Reason::Operand, invalid))
+}
+
+// Line 5 at the first byte of a part.
+fn outside(storage_length: usize, here: Part) -> bool
+    ensures { λ r. ⌜ r ≡ isOutside «storage_length» here ⌝ }
+{
+    storage_length <= here.real as usize
+}
+
+// Line 67 at the first byte of a part.
+fn absolute_outside(storage_length: usize, here: Part) -> bool
+    ensures { λ r. ⌜ r ≡ absoluteOutside «storage_length» here ⌝ }
+{
+    ((here.real as usize) < storage_length) & (storage_length <= here.at)
+}
+
+// Lines 5, 67 and 4 of an access in one unit.
+pub(crate) fn lines_of_one(
+    storage_length: usize,
+    p: Processor,
+    kind: AccessKind,
+    here: Part,
+) -> Verdict
+    ensures { λ r. ⌜ r ≡ linesOfOne «storage_length» p kind here ⌝ }
+{
+    if outside(storage_length, here) {
+        return Verdict::Stop {
+            reason: Reason::Addressing,
+            place: 0,
+        };
+    }
+    if absolute_outside(storage_length, here) {
+        return Verdict::Stop {
+            reason: Reason::AbsoluteAddress,
+            place: 0,
+        };
+    }
+    if forbidden(kind, p, here.real, here.key) {
+        return Verdict::Stop {
+            reason: Reason::Protection,
+            place: 0,
+        };
+    }
+    Verdict::Clear
+}
+
+// A line of an access in two units: place 0 where the first test holds, else place k where the second does.
 fn two_tests(reason: Reason, here: bool, k: u32, there: bool) -> Verdict
     ensures { λ r. ⌜ r ≡ twoTests reason here k there ⌝ }
 {
@@ -33,150 +98,34 @@ fn two_tests(reason: Reason, here: bool, k: u32, there: bool) -> Verdict
     Verdict::Clear
 }
 
-// Line 66.
-fn operand_invalid(kind: AccessKind, start: u32, count: u32, buffer_length: usize) -> bool
-    ensures { λ r. ⌜ r ≡ operandInvalid (Request.Access kind start count) «buffer_length» ⌝ }
-{
-    (count == 0) | (256 < count) | (16777216 <= start) | (buffer_length < count as usize)
-}
-
-fn absolute_outside(storage_length: usize, p: Processor, real: u32) -> bool
-    ensures { λ r. ⌜ r ≡ absoluteOutside «storage_length» p real ⌝ }
-{
-    let at = absolute(p.prefix, real);
-    ((real as usize) < storage_length) & (storage_length <= at as usize)
-}
-
-// The key of the unit of byte i, or 0 where the array has none.
-fn key_at(settings: Settings, keys: &[u8], p: Processor, start: u32, i: u32) -> u8
-    ensures { λ r. ⌜ r ≡ getD (now (keys .entry)) (unitOf settings (byteAt p start i)) 0 ⌝ }
-{
-    let unit = unit_at(settings, p, start, i);
-    if unit < keys.len() { keys[unit] } else { 0 }
-}
-
-// Lines 5, 67 and 4 of an access in one unit.
-fn one_unit(
-    settings: Settings,
-    storage_length: usize,
-    keys: &[u8],
-    p: Processor,
-    kind: AccessKind,
-    start: u32,
-) -> Verdict
-    ensures { λ r. ⌜ r ≡ linesOfOne settings «storage_length» (now (keys .entry)) p kind start ⌝ }
-{
-    let real = add24(start, 0);
-    if storage_length <= real as usize {
-        return Verdict::Stop {
-            reason: Reason::Addressing,
-            place: 0,
-        };
-    }
-    if absolute_outside(storage_length, p, real) {
-        return Verdict::Stop {
-            reason: Reason::AbsoluteAddress,
-            place: 0,
-        };
-    }
-    if forbidden(kind, p, real, key_at(settings, keys, p, start, 0)) {
-        return Verdict::Stop {
-            reason: Reason::Protection,
-            place: 0,
-        };
-    }
-    Verdict::Clear
-}
-
 // Lines 5, 67 and 4 of an access in two units, byte k being the first in the second unit.
-fn two_units(
-    settings: Settings,
+pub(crate) fn lines_of_two(
     storage_length: usize,
-    keys: &[u8],
     p: Processor,
     kind: AccessKind,
-    start: u32,
+    here: Part,
     k: u32,
+    there: Part,
 ) -> Verdict
-    ensures { λ r. ⌜ r ≡ linesOfTwo settings «storage_length» (now (keys .entry)) p kind start k ⌝ }
+    ensures { λ r. ⌜ r ≡ linesOfTwo «storage_length» p kind here k there ⌝ }
 {
-    let here = add24(start, 0);
-    let there = add24(start, k);
     let outside = two_tests(
         Reason::Addressing,
-        storage_length <= here as usize,
+        outside(storage_length, here),
         k,
-        storage_length <= there as usize,
+        outside(storage_length, there),
     );
     let beyond = two_tests(
         Reason::AbsoluteAddress,
-        absolute_outside(storage_length, p, here),
+        absolute_outside(storage_length, here),
         k,
-        absolute_outside(storage_length, p, there),
+        absolute_outside(storage_length, there),
     );
     let protected = two_tests(
         Reason::Protection,
-        forbidden(kind, p, here, key_at(settings, keys, p, start, 0)),
+        forbidden(kind, p, here.real, here.key),
         k,
-        forbidden(kind, p, there, key_at(settings, keys, p, start, k)),
+        forbidden(kind, p, there.real, there.key),
     );
     first_of(outside, first_of(beyond, protected))
-}
-
-// Lines 5, 67 and 4.
-fn by_unit(
-    settings: Settings,
-    storage_length: usize,
-    keys: &[u8],
-    p: Processor,
-    kind: AccessKind,
-    start: u32,
-    count: u32,
-) -> Verdict
-    ensures { λ r. ⌜ r ≡ linesByUnit settings «storage_length» (now (keys .entry)) p kind start count ⌝ }
-{
-    let first = left(settings, start);
-    if count <= first {
-        one_unit(settings, storage_length, keys, p, kind, start)
-    } else {
-        two_units(settings, storage_length, keys, p, kind, start, first)
-    }
-}
-
-// The verdict of the table on an access.
-pub(crate) fn verdict(
-    settings: Settings,
-    storage_length: usize,
-    keys: &[u8],
-    number: usize,
-    p: Processor,
-    kind: AccessKind,
-    start: u32,
-    count: u32,
-    buffer_length: usize,
-) -> Verdict
-    ensures { λ r. ⌜ r ≡ verdictOf settings «storage_length» (now (keys .entry)) number p (Request.Access kind start count) «buffer_length» ⌝ }
-{
-    let lengths = lengths_valid(settings, storage_length, keys.len());
-    let record = (number < 2) & record_valid(storage_length, p);
-    let invalid = operand_invalid(kind, start, count, buffer_length);
-    if !lengths {
-        return Verdict::Stop {
-            reason: Reason::Configuration,
-            place: 0,
-        };
-    }
-    if !record {
-        return Verdict::Stop {
-            reason: Reason::Record,
-            place: 0,
-        };
-    }
-    if invalid {
-        return Verdict::Stop {
-            reason: Reason::Operand,
-            place: 0,
-        };
-    }
-    by_unit(settings, storage_length, keys, p, kind, start, count)
 }

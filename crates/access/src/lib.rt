@@ -1,13 +1,16 @@
 // Fetch and store of 1 to 256 bytes over lent storage, keys and buffer. A refused access touches nothing.
-mod address;
 mod check;
+mod fetching;
+mod part;
+mod storing;
 mod transfer;
 
-use crate::check::verdict;
-use crate::transfer::fetch_bytes;
-use crate::transfer::move_bytes;
-use crate::transfer::record;
-use crate::transfer::store_bytes;
+use crate::check::first_lines;
+use crate::fetching::fetch_in_one;
+use crate::fetching::fetch_in_two;
+use crate::part::left;
+use crate::storing::store_in_one;
+use crate::storing::store_in_two;
 use machine::AccessKind;
 use machine::Answer;
 use machine::Processor;
@@ -34,10 +37,10 @@ pub fn store(
     ensures { λ r. ⌜ ((ps : List Processor) → recordOf ps number ≡ p → outcome r (now (storage .exit)) (now (keys .exit)) ps (now (bytes .entry)) ≡ step settings (now (storage .entry)) (now (keys .entry)) ps number (Request.Access AccessKind.Store start count) (now (bytes .entry))) ⌝ }
 {
     let kind = AccessKind::Store;
-    let found = verdict(
+    let found = first_lines(
         settings,
         storage.len(),
-        &keys[..],
+        keys.len(),
         number,
         p,
         kind,
@@ -47,9 +50,12 @@ pub fn store(
     );
     match found {
         Verdict::Clear => {
-            store_bytes(settings, storage, p, start, count, bytes);
-            record(settings, keys, p, kind, start, count);
-            Answer::Completed { word: 0 }
+            let k = left(settings, start);
+            if count <= k {
+                store_in_one(settings, storage, keys, p, start, count, bytes)
+            } else {
+                store_in_two(settings, storage, keys, p, start, count, k, bytes)
+            }
         }
         Verdict::Stop { reason, place } => Answer::Refused { reason, place },
     }
@@ -69,10 +75,10 @@ pub fn fetch(
     ensures { λ r. ⌜ ((ps : List Processor) → recordOf ps number ≡ p → outcome r (now (storage .entry)) (now (keys .exit)) ps (now (buffer .exit)) ≡ step settings (now (storage .entry)) (now (keys .entry)) ps number (Request.Access AccessKind.Fetch start count) (now (buffer .entry))) ⌝ }
 {
     let kind = AccessKind::Fetch;
-    let found = verdict(
+    let found = first_lines(
         settings,
         storage.len(),
-        &keys[..],
+        keys.len(),
         number,
         p,
         kind,
@@ -82,9 +88,12 @@ pub fn fetch(
     );
     match found {
         Verdict::Clear => {
-            fetch_bytes(settings, storage, p, start, count, buffer);
-            record(settings, keys, p, kind, start, count);
-            Answer::Completed { word: 0 }
+            let k = left(settings, start);
+            if count <= k {
+                fetch_in_one(settings, storage, keys, p, start, count, buffer)
+            } else {
+                fetch_in_two(settings, storage, keys, p, start, count, k, buffer)
+            }
         }
         Verdict::Stop { reason, place } => Answer::Refused { reason, place },
     }
@@ -104,23 +113,30 @@ pub fn access(
 ) -> Answer
     ensures { λ r. ⌜ ((ps : List Processor) → recordOf ps number ≡ p → outcome r (now (storage .exit)) (now (keys .exit)) ps (now (buffer .exit)) ≡ step settings (now (storage .entry)) (now (keys .entry)) ps number (Request.Access kind start count) (now (buffer .entry))) ⌝ }
 {
-    let found = verdict(
-        settings,
-        storage.len(),
-        &keys[..],
-        number,
-        p,
-        kind,
-        start,
-        count,
-        buffer.len(),
-    );
-    match found {
-        Verdict::Clear => {
-            move_bytes(settings, storage, p, kind, start, count, buffer);
-            record(settings, keys, p, kind, start, count);
-            Answer::Completed { word: 0 }
+    match kind {
+        AccessKind::Fetch => {
+            fetch(
+                settings,
+                &storage[..],
+                keys,
+                p,
+                number,
+                start,
+                count,
+                buffer,
+            )
         }
-        Verdict::Stop { reason, place } => Answer::Refused { reason, place },
+        AccessKind::Store => {
+            store(
+                settings,
+                storage,
+                keys,
+                p,
+                number,
+                start,
+                count,
+                &buffer[..],
+            )
+        }
     }
 }

@@ -222,6 +222,10 @@ module _ (s : Settings) (storage keys : List ℕ) (ps : List Processor) (n : ℕ
   unfolding step performed
   refused-request e = rw (← record-found, ← verdict-found, e)
 
+  pub performed-request : performed v s storage keys ps n r buffer ≡ step s storage keys ps n r buffer
+  unfolding step
+  performed-request = rw (← record-found, ← verdict-found)
+
   pub completed-request : v ≡ Clear → completed s storage keys ps n p r buffer ≡ step s storage keys ps n r buffer
   unfolding step performed
   completed-request e = rw (← record-found, ← verdict-found, e, ← record-found)

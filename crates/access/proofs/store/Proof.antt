@@ -1,23 +1,25 @@
--- `store` is the rules' step: by the verdict of the table. Assumes nothing.
-use mathlib.Core.Path.{sym, _∙_}
-use Rattle.machine.specs.Step.{bufferLeft}
-use Rattle.machine.proofs.Requests.{refused-request}
-use Rattle.access.proofs.Completed.{bytes-may-move, keys-may-change, completed-access}
+-- `store` is the rules' step: refused by lines 64, 65 and 66, else as an access in one unit or in two. Assumes nothing.
+use mathlib.Core.Path.{refl, sym, _∙_}
+use Rattle.machine.proofs.Requests.{refused-request, performed-request}
+use Rattle.access.proofs.Checks.{admitted, refused-first, table-of-one, table-of-two}
 use borrow.Author.Needs.{needs}
 use Rattle.access.proofs.store.Statement.{statement}
 use Rattle.access.proofs.store.Tie as tie
 
-verdict-requires : tie.Need-verdict-requires
-verdict-requires c κs = search needs
+first-lines-requires : tie.Need-first-lines-requires
+first-lines-requires c κs = search needs
 
 enum-told : tie.Need-enum-told
 enum-told c = search needs
 
-store-bytes-requires : tie.Need-store-bytes-requires
-store-bytes-requires c κs = bytes-may-move _ _ _ _ _ _ _ _ _ (sym (c .before .before .before .verdict .ensures) ∙ c .before .enum-told .given .1)
+left-requires : tie.Need-left-requires
+left-requires c κs = search needs
 
-record-requires : tie.Need-record-requires
-record-requires c κs = keys-may-change _ _ _ _ _ _ _ _ _ (sym (c .before .before .before .before .before .before .before .verdict .ensures) ∙ c .before .before .before .before .before .enum-told .given .1)
+store-in-one-requires : tie.Need-store-in-one-requires
+store-in-one-requires c κs = (admitted _ _ (c .before .before .before .before .before .before .before .before .before .before .args .keys .now) (c .before .before .before .before .before .before .before .before .before .before .args .number) _ _ _ _ _ (sym (c .before .before .before .before .before .before .first-lines .ensures) ∙ c .before .before .before .before .enum-told .given .1), (rw (c .before .before .before .left .ensures) at (c .before .before .if1 .taken)))
+
+store-in-two-requires : tie.Need-store-in-two-requires
+store-in-two-requires c κs = (admitted _ _ (c .before .before .before .before .before .before .before .before .before .before .args .keys .now) (c .before .before .before .before .before .before .before .before .before .before .args .number) _ _ _ _ _ (sym (c .before .before .before .before .before .before .first-lines .ensures) ∙ c .before .before .before .before .enum-told .given .1), (c .before .before .before .left .ensures, c .before .before .if1 .left))
 
 enum-known-found : tie.Need-enum-known-found
 enum-known-found c = search needs
@@ -29,26 +31,34 @@ same-length-2 : tie.Need-same-length-2
 same-length-2 c = search needs
 
 returns : tie.Need-returns
-unfolding bufferLeft
-returns c = λ ps e. rw (c .before .before .«record» .ensures, c .before .before .before .before .before .before .store-bytes .ensures) (completed-access _ _ _ ps _ _ _ _ _ _ e (sym (c .before .before .before .before .before .before .before .before .before .before .verdict .ensures) ∙ c .before .before .before .before .before .before .before .before .enum-told .given .1))
+returns c = λ ps e. c .before .before .before .before .store-in-one .ensures ps _ e ∙ performed-request _ _ _ ps _ _ _ (sym e) (table-of-one _ _ (c .before .before .before .before .before .before .before .before .before .before .before .before .before .before .before .args .keys .now) _ _ _ _ _ _ (sym (c .before .before .before .before .before .before .before .before .before .before .before .first-lines .ensures) ∙ c .before .before .before .before .before .before .before .before .before .enum-told .given .1) (rw (c .before .before .before .before .before .before .before .before .left .ensures) at (c .before .before .before .before .before .before .before .if1 .taken)))
 
 same-length-3 : tie.Need-same-length-3
 same-length-3 c = search needs
 
+same-length-4 : tie.Need-same-length-4
+same-length-4 c = search needs
+
 returns-2 : tie.Need-returns-2
-returns-2 c = λ ps e. refused-request _ _ _ ps _ _ _ (sym e) (c .before .before .before .verdict .ensures) (c .before .found .given .1)
+returns-2 c = λ ps e. c .before .before .before .before .store-in-two .ensures ps _ e ∙ performed-request _ _ _ ps _ _ _ (sym e) (table-of-two _ _ (c .before .before .before .before .before .before .before .before .before .before .before .before .before .before .before .args .keys .now) _ _ _ _ _ _ _ (sym (c .before .before .before .before .before .before .before .before .before .before .before .first-lines .ensures) ∙ c .before .before .before .before .before .before .before .before .before .enum-told .given .1) (c .before .before .before .before .before .before .before .before .left .ensures) (c .before .before .before .before .before .before .before .if1 .left))
+
+returns-3 : tie.Need-returns-3
+returns-3 c = λ ps e. refused-request _ _ _ ps _ _ _ (sym e) (refused-first _ _ (c .before .before .before .before .before .before .before .args .keys .now) _ _ _ _ _ _ (sym (c .before .before .before .first-lines .ensures) ∙ c .before .found .given .1)) refl
 
 pub store-spec : {M : Type 1} → statement M
 store-spec =
     tie.close
     (tie.spec
-    verdict-requires
+    first-lines-requires
     enum-told
-    store-bytes-requires
-    record-requires
+    left-requires
+    store-in-one-requires
+    store-in-two-requires
     enum-known-found
     same-length
     same-length-2
     returns
     same-length-3
-    returns-2)
+    same-length-4
+    returns-2
+    returns-3)

@@ -1,7 +1,7 @@
 -- `left` is the rest of the unit: by the facility. Assumes nothing.
 use borrow.Author.Needs.{needs}
-use Rattle.access.proofs.address.left.Statement.{statement}
-use Rattle.access.proofs.address.left.Tie as tie
+use Rattle.access.proofs.part.left.Statement.{statement}
+use Rattle.access.proofs.part.left.Tie as tie
 
 sub-result : tie.Need-sub-result
 sub-result c = search needs

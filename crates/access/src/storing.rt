@@ -1,0 +1,77 @@
+// A store that lines 64, 65 and 66 have let pass, in one unit and in two: its parts are tested, then moved, each in one run, and recorded in the
+// keys of their units.
+use crate::check::lines_of_one;
+use crate::check::lines_of_two;
+use crate::part::part_at;
+use crate::transfer::store_run;
+use machine::AccessKind;
+use machine::Answer;
+use machine::Processor;
+use machine::Settings;
+use machine::Verdict;
+use storage_key::recorded;
+ghost use Prim.Native.Nat.{_≤_, _<_};
+ghost use mathlib.Core.Path.{_≡_};
+ghost use lib.ListN.{length};
+ghost use Rattle.access.specs.Runs.{left as leftOf, partAt, linesOfOne, linesOfTwo};
+ghost use Rattle.access.specs.Admitted.{Admitted, Performed};
+
+// A store in one unit.
+pub(crate) fn store_in_one(
+    settings: Settings,
+    storage: &mut [u8],
+    keys: &mut [u8],
+    p: Processor,
+    start: u32,
+    count: u32,
+    bytes: &[u8],
+) -> Answer
+    requires { ⌜ Admitted settings (length (now storage)) (length (now keys)) p AccessKind.Store start count (length (now bytes)) × (count ≤ leftOf settings start) ⌝ }
+    ensures { λ r. ⌜ Performed (linesOfOne (length (now (storage .entry))) p AccessKind.Store (partAt settings (now (keys .entry)) p start 0)) settings p AccessKind.Store start count (now (storage .entry)) (now (keys .entry)) (now (bytes .entry)) r (now (storage .exit)) (now (keys .exit)) (now (bytes .entry)) ⌝ }
+{
+    let kind = AccessKind::Store;
+    let here = part_at(settings, &keys[..], p, start, 0);
+    let found = lines_of_one(storage.len(), p, kind, here);
+    match found {
+        Verdict::Clear => {
+            store_run(storage, here.at, here.real, bytes, 0, count as usize);
+            let unit = here.unit;
+            keys[unit] = recorded(kind, here.key);
+            Answer::Completed { word: 0 }
+        }
+        Verdict::Stop { reason, place } => Answer::Refused { reason, place },
+    }
+}
+
+// A store in two units, byte k being the first in the second. Both keys are read before one is written.
+pub(crate) fn store_in_two(
+    settings: Settings,
+    storage: &mut [u8],
+    keys: &mut [u8],
+    p: Processor,
+    start: u32,
+    count: u32,
+    k: u32,
+    bytes: &[u8],
+) -> Answer
+    requires { ⌜ Admitted settings (length (now storage)) (length (now keys)) p AccessKind.Store start count (length (now bytes)) × ((k ≡ leftOf settings start) × (k < count)) ⌝ }
+    ensures { λ r. ⌜ Performed (linesOfTwo (length (now (storage .entry))) p AccessKind.Store (partAt settings (now (keys .entry)) p start 0) k (partAt settings (now (keys .entry)) p start k)) settings p AccessKind.Store start count (now (storage .entry)) (now (keys .entry)) (now (bytes .entry)) r (now (storage .exit)) (now (keys .exit)) (now (bytes .entry)) ⌝ }
+{
+    let kind = AccessKind::Store;
+    let here = part_at(settings, &keys[..], p, start, 0);
+    let there = part_at(settings, &keys[..], p, start, k);
+    let found = lines_of_two(storage.len(), p, kind, here, k, there);
+    match found {
+        Verdict::Clear => {
+            let rest = (count - k) as usize;
+            store_run(storage, here.at, here.real, bytes, 0, k as usize);
+            store_run(storage, there.at, there.real, bytes, k as usize, rest);
+            let first = here.unit;
+            let last = there.unit;
+            keys[first] = recorded(kind, here.key);
+            keys[last] = recorded(kind, there.key);
+            Answer::Completed { word: 0 }
+        }
+        Verdict::Stop { reason, place } => Answer::Refused { reason, place },
+    }
+}

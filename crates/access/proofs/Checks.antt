@@ -11,17 +11,17 @@ use lib.ListN.{length, getD}
 use Rattle.machine.specs.declared.Settings.{Settings}
 use Rattle.machine.specs.declared.Processor.{Processor}
 use Rattle.machine.specs.declared.Reason.{Reason}
-use Rattle.machine.specs.declared.Reason.the-variants.{Configuration, Record, Operand, Addressing, AbsoluteAddress, Protection}
+use Rattle.machine.specs.declared.Reason.the-variants.{Addressing, AbsoluteAddress, Protection}
 use Rattle.machine.specs.declared.Request.the-variants.{Access}
 use Rattle.machine.specs.declared.Verdict.{Verdict}
 use Rattle.machine.specs.declared.AccessKind.{AccessKind}
 use Rattle.machine.specs.declared.AccessKind.the-variants.{Fetch, Store}
 use Rattle.machine.specs.declared.Verdict.the-variants.{Clear, Stop}
-use Rattle.machine.specs.Numbers.{lengthsValid, recordValid, unitOf, add24}
+use Rattle.machine.specs.Numbers.{unitOf, add24}
 use Rattle.machine.specs.Answers.{line, firstOf, firstByte, firstLine}
 use Rattle.machine.specs.Prefixing.{byteAt}
 use Rattle.machine.specs.Protection.{lowProtected, forbidden}
-use Rattle.machine.specs.Table.{operandInvalid, absoluteOutside, addressing, absoluteAddressing, protection, plan, verdict}
+use Rattle.machine.specs.Table.{absoluteOutside, addressing, absoluteAddressing, protection, plan, verdict}
 use Rattle.machine.proofs.Verdicts.{both, neither, line-clear, first-clear, first-none, first-assoc, bytes-none, bytes-stop}
 use Rattle.machine.proofs.Plans.{configured, operands-passed}
 use Rattle.machine.proofs.AbsoluteAddress.{absolute-inside}

@@ -11,7 +11,7 @@ use Rattle.machine.specs.declared.Reason.the-variants.{Configuration, Re
 use Rattle.machine.specs.declared.Answer.{Answer}
 use Rattle.machine.specs.declared.Answer.the-variants.{Completed, Refused}
 use Rattle.machine.specs.Answers.{number, numberOf}
-use Rattle.machine.specs.Step.{Outcome, outcome, step}
+use Rattle.machine.specs.Step.{outcome, step}
 use Rattle.machine.specs.Conditions.{numbers, isIn, Condition1}
 use Rattle.machine.proofs.Requests.{refused-changes-nothing}
 

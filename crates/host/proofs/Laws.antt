@@ -1,16 +1,10 @@
 -- Bounds that keep the boundary's sums in their types, and the operation numbers past the last. Assumes nothing.
 use Prim.Native.Nat.{ℕ, suc, _≤_}
 use mathlib.Core.Path.{_≡_}
-use mathlib.Core.Bool.{Bool, true, false}
 use native.Mathlib.Omega.{arith}
 use Rattle.machine.specs.declared.Reason.{Reason}
 use Rattle.machine.specs.declared.Reason.the-variants.{Configuration, Record, Operand, Operation, Privileged, SpecialOperation, Specification, Addressing, AbsoluteAddress, Protection}
 use Rattle.machine.specs.Answers.{number}
-use Rattle.host.specs.Boundary.{value}
-
-pub value-at-most : (b : Bool) (v : ℕ) → value b v ≤ v
-value-at-most true v = omega arith
-value-at-most false v = omega arith
 
 pub number-at-most : (r : Reason) → number r ≤ 67
 number-at-most Configuration = omega arith

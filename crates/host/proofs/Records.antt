@@ -1,19 +1,22 @@
 -- Records and their eight bytes are a round trip: what is written is read again, and what is read, where no reserved bit is on, is written
--- again. Bits are compared case by case, the prefix byte by byte. Assumes nothing.
+-- again. Bits are compared case by case, the prefix byte by byte. Where only condition code and prefix differ, writing these is enough: the
+-- other bytes are there already. Assumes nothing.
 use Prim.Native.Nat.{ℕ, zero, suc, _+_, _*_, _/_, _%_, _<_, _≤_}
-use mathlib.Core.Path.{_≡_, refl, ap}
-use mathlib.Core.Bool.{Bool, true, false}
-use mathlib.Core.List.{List}
+use mathlib.Core.Path.{_≡_, refl, sym, ap, _∙_}
+use mathlib.Core.Bool.{Bool, true, false, cond}
+use mathlib.Core.List.{List, [], _∷_}
 use native.Mathlib.Omega.{arith}
 use native.Mathlib.Nat.{add-zero}
-use lib.ListN.{length, getD}
+use lib.ListN.{length, getD, set}
+use lib.Seq.{getD-append-add, getD-set-other, set-getD, set-comm}
 use lib.Dec.{eqb, ltb}
-use borrow.Author.Tests.{lt-ltb, ltb-true, eqb-true}
+use borrow.Author.Tests.{lt-ltb, ltb-true, leb-true, eqb-true}
 use Rattle.machine.specs.declared.Processor.{Processor}
-use Rattle.machine.specs.Numbers.{written}
+use Rattle.machine.specs.Numbers.{recordValid, written}
 use Rattle.machine.proofs.Written.{written-there}
 use Rattle.machine.proofs.Verdicts.{both}
-use Rattle.host.specs.Boundary.{bit, value, reservedZero, recordAt, recordBytes}
+use Rattle.machine.proofs.Requests.{Kept}
+use Rattle.host.specs.Boundary.{bit, value, reservedZero, recordAt, prefixBytes, recordBytes, Holds}
 
 -- the three control bits in one number, and back
 abbrev joined : Bool → Bool → Bool → ℕ
@@ -47,10 +50,6 @@ four-bytes x h =
     let c : x / 65536 ≡ x / 65536 % 256 + x / 16777216 * 256 = omega arith in
     let d : x / 16777216 % 256 ≡ x / 16777216 = omega arith in
     omega arith
-
--- the bytes from `at` on are those of p
-abbrev Holds : List ℕ → ℕ → Processor → Type 0
-Holds bytes at p = (i : ℕ) → i < 8 → getD bytes (at + i) 0 ≡ getD (recordBytes p) i 0
 
 read-bytes : (bytes : List ℕ) (at : ℕ) (p : Processor) → p .prefix < 4294967296 → Holds bytes at p → recordAt bytes at ≡ p
 read-bytes bytes at p small e =
@@ -122,3 +121,35 @@ read-record-is-written bytes at byte reserved =
         × (getD bytes (at + 6) 0 ≡ recordAt bytes at .prefix / 65536 % 256)
         × (getD bytes (at + 7) 0 ≡ recordAt bytes at .prefix / 16777216 % 256)
     four = prefix-bytes _ _ _ _ (byte (at + 4)) (byte (at + 5)) (byte (at + 6)) (byte (at + 7))
+
+-- so are the bytes of a record that line 65 lets pass: with a reserved bit on, its PSW key would be 255
+pub valid-record-is-written : (bytes : List ℕ) (at storageLength : ℕ) → ((i : ℕ) → getD bytes i 0 < 256)
+    → recordValid storageLength (recordAt bytes at) ≡ true → Holds bytes at (recordAt bytes at)
+valid-record-is-written bytes at storageLength byte valid =
+    read-record-is-written bytes at byte (zeros _ _ (leb-true _ _ (both _ _ (both _ _ (both _ _ valid .0) .0) .0)))
+  where
+    zeros : (b : Bool) (k : ℕ) → cond b k 255 ≤ 15 → b ≡ true
+    zeros true k h = refl
+    zeros false k h = absurd (omega arith)
+
+-- Over the bytes of p, condition code and prefix are all that has to be written of q, which is p but for these.
+module _ (bytes : List ℕ) (at : ℕ) (p q : Processor) (holds : Holds bytes at p) (kept : Kept p q) where
+  pub prefix-held : (i : ℕ) → i < 4 → getD (set bytes (at + 2) (q .code)) (at + (4 + i)) 0 ≡ getD (prefixBytes (p .prefix)) i 0
+  prefix-held i h =
+      getD-set-other bytes (at + 2) (at + (4 + i)) (q .code) 0 (λ e. omega arith)
+      ∙ holds (4 + i) (omega arith)
+      ∙ getD-append-add (p .key ∷ joined (p .problem) (p .«low_protection») (p .«key_control») ∷ p .code ∷ 0 ∷ []) (prefixBytes (p .prefix)) i 0
+
+  pub code-and-prefix-written : written (set bytes (at + 2) (q .code)) (λ i. at + (4 + i)) (λ i. getD (prefixBytes (q .prefix)) i 0) 4
+      ≡ written bytes (λ i. at + i) (λ i. getD (recordBytes q) i 0) 8
+  unfolding written
+  code-and-prefix-written =
+      rw (
+        back 0 (omega arith) (ap (λ r. r .key) kept),
+        back 1 (omega arith) (ap (λ r. joined (r .problem) (r .«low_protection») (r .«key_control»)) kept),
+        set-comm bytes (at + 2) (at + 3) (q .code) 0 (λ e. omega arith),
+        back 3 (omega arith) refl,
+      )
+    where
+      back : (i : ℕ) → i < 8 → getD (recordBytes q) i 0 ≡ getD (recordBytes p) i 0 → set bytes (at + i) (getD (recordBytes q) i 0) ≡ bytes
+      back i h same = rw (same ∙ sym (holds i h)) (set-getD bytes (at + i) 0)

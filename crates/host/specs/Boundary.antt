@@ -1,5 +1,6 @@
 -- The boundary for programs in other languages. A call is the step of the storage unit on what its numbers and bytes stand for.
-use Prim.Native.Nat.{ℕ, _+_, _*_, _/_, _%_}
+use Prim.Native.Nat.{ℕ, _+_, _*_, _/_, _%_, _<_}
+use mathlib.Core.Path.{_≡_}
 use mathlib.Core.Bool.{Bool, cond, _&&_}
 use mathlib.Core.List.{List, [], _∷_}
 use lib.ListN.{length, getD}
@@ -44,6 +45,10 @@ recordAt bytes at =
 abbrev pub value : Bool → ℕ → ℕ
 value b v = cond b v 0
 
+-- a number below 2^32 in four bytes, the least first
+abbrev pub prefixBytes : ℕ → List ℕ
+prefixBytes x = (x % 256) ∷ (x / 256 % 256) ∷ (x / 65536 % 256) ∷ (x / 16777216 % 256) ∷ []
+
 -- the eight bytes of a record
 abbrev pub recordBytes : Processor → List ℕ
 recordBytes p =
@@ -51,11 +56,11 @@ recordBytes p =
     ∷ (value (p .problem) 1 + value (p .«low_protection») 2 + value (p .«key_control») 4)
     ∷ p .code
     ∷ 0
-    ∷ (p .prefix % 256)
-    ∷ (p .prefix / 256 % 256)
-    ∷ (p .prefix / 65536 % 256)
-    ∷ (p .prefix / 16777216 % 256)
-    ∷ []
+    ∷ prefixBytes (p .prefix)
+
+-- the bytes from `at` on are those of p
+abbrev pub Holds : List ℕ → ℕ → Processor → Type 0
+Holds bytes at p = (i : ℕ) → i < 8 → getD bytes (at + i) 0 ≡ getD (recordBytes p) i 0
 
 -- the pair of records, processor 0's first
 abbrev pub pairOf : List ℕ → List Processor

@@ -11,7 +11,6 @@ use crate::request::request_of;
 use machine::Answer;
 use machine::Processor;
 use machine::Reason;
-use machine::Request;
 use machine::Settings;
 ghost use mathlib.Core.Path.{_≡_};
 ghost use Prim.Native.Nat.{_<_};
@@ -20,7 +19,7 @@ ghost use lib.Dec.{eqb, ltb};
 ghost use lib.ListN.{length};
 ghost use Rattle.machine.specs.Numbers.{own};
 ghost use Rattle.machine.specs.Step.{step};
-ghost use Rattle.host.specs.Boundary.{pairOf, left, leftBy, called};
+ghost use Rattle.host.specs.Boundary.{pairOf, requestOf, left, leftBy, called};
 
 // The record of the processor with this number in the bytes; where it is not 0 or 1, a record of zeros.
 fn record_of(records: &[u8], number: usize) -> Processor
@@ -52,26 +51,29 @@ fn processor_of(length: usize, processor: u32) -> usize
     }
 }
 
-// A request over the bytes of the records. A completed one writes its own processor's record.
+// A request over the bytes of the records. A completed one writes what it changes of its own processor's record.
 fn serve_bytes(
     settings: Settings,
     storage: &mut [u8],
     keys: &mut [u8],
     records: &mut [u8],
     number: usize,
-    asked: Request,
+    operation: u32,
+    first: u32,
+    second: u32,
     buffer: &mut [u8],
 ) -> u64
     requires { ⌜ (number < 2 → length (now records) ≡ 16) ⌝ }
-    ensures { λ r. ⌜ left r (now (storage .exit)) (now (keys .exit)) (now (records .exit)) (now (buffer .exit)) ≡ leftBy (now (records .entry)) number (step settings (now (storage .entry)) (now (keys .entry)) (pairOf (now (records .entry))) number asked (now (buffer .entry))) ⌝ }
+    ensures { λ r. ⌜ left r (now (storage .exit)) (now (keys .exit)) (now (records .exit)) (now (buffer .exit)) ≡ leftBy (now (records .entry)) number (step settings (now (storage .entry)) (now (keys .entry)) (pairOf (now (records .entry))) number (requestOf operation first second) (now (buffer .entry))) ⌝ }
 {
     let p = record_of(&records[..], number);
+    let asked = request_of(operation, first, second);
     let served = storage_unit::serve(settings, storage, keys, p, number, asked, buffer);
     let answer = served.answer;
     let processor = served.processor;
     match answer {
         Answer::Completed { word } => {
-            put_record(records, number * 8, processor);
+            put_record(records, number * 8, p, processor);
             pack(Answer::Completed { word })
         }
         Answer::Refused { reason, place } => pack(Answer::Refused { reason, place }),
@@ -103,7 +105,16 @@ pub extern "C" fn storage_unit_request(
         });
     }
     let machine = settings_of(settings);
-    let asked = request_of(operation, first, second);
     let number = processor_of(records.len(), processor);
-    serve_bytes(machine, storage, keys, records, number, asked, buffer)
+    serve_bytes(
+        machine,
+        storage,
+        keys,
+        records,
+        number,
+        operation,
+        first,
+        second,
+        buffer,
+    )
 }

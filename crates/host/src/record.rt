@@ -1,12 +1,13 @@
 // Settings and processor records as numbers and bytes.
 use machine::Processor;
 use machine::Settings;
-ghost use Prim.Native.Nat.{_+_, _*_, _≤_, _<_};
+ghost use Prim.Native.Nat.{ℕ, _+_, _*_, _≤_, _<_};
 ghost use mathlib.Core.Path.{_≡_};
 ghost use mathlib.Core.Bool.{cond};
-ghost use lib.ListN.{length, getD};
+ghost use lib.ListN.{length, getD, set};
 ghost use Rattle.machine.specs.Numbers.{written};
-ghost use Rattle.host.specs.Boundary.{settingsOf, recordAt, value as valueOf, recordBytes};
+ghost use Rattle.machine.specs.Step.{withCode, withPrefix};
+ghost use Rattle.host.specs.Boundary.{settingsOf, recordAt, prefixBytes, recordBytes, Holds};
 
 pub(crate) fn settings_of(word: u32) -> Settings
     ensures { λ r. ⌜ r ≡ settingsOf word ⌝ }
@@ -49,30 +50,34 @@ pub(crate) fn record_at(bytes: &[u8], at: usize) -> Processor
     }
 }
 
-fn value(bit: bool, v: u8) -> u8
-    ensures { λ r. ⌜ r ≡ valueOf bit v ⌝ }
+// Writes the condition code where it has changed.
+fn put_code(bytes: &mut [u8], at: usize, before: u8, after: u8)
+    requires { ⌜ (length (now bytes) ≡ 16) × (at ≤ 8) × (getD (now bytes) (at + 2) 0 ≡ before) ⌝ }
+    ensures { λ _. ⌜ now (bytes .exit) ≡ set (now (bytes .entry)) (at + 2) after ⌝ }
 {
-    if bit { v } else { 0 }
+    if before != after {
+        bytes[at + 2] = after;
+    }
 }
 
-// The control byte of a record.
-fn controls(p: Processor) -> u8
-    ensures { λ r. ⌜ r ≡ valueOf (p .problem) 1 + valueOf (p .«low_protection») 2 + valueOf (p .«key_control») 4 ⌝ }
+// Writes the prefix where it has changed.
+fn put_prefix(bytes: &mut [u8], at: usize, before: u32, after: u32)
+    requires { ⌜ (length (now bytes) ≡ 16) × (at ≤ 8) × ((i : ℕ) → i < 4 → getD (now bytes) (at + (4 + i)) 0 ≡ getD (prefixBytes before) i 0) ⌝ }
+    ensures { λ _. ⌜ now (bytes .exit) ≡ written (now (bytes .entry)) (λ i. at + (4 + i)) (λ i. getD (prefixBytes after) i 0) 4 ⌝ }
 {
-    value(p.problem, 1) + value(p.low_protection, 2) + value(p.key_control, 4)
+    if before != after {
+        bytes[at + 4] = (after % 256) as u8;
+        bytes[at + 5] = (after / 256 % 256) as u8;
+        bytes[at + 6] = (after / 65536 % 256) as u8;
+        bytes[at + 7] = (after / 16777216 % 256) as u8;
+    }
 }
 
-// Writes the record into the eight bytes from `at` on.
-pub(crate) fn put_record(bytes: &mut [u8], at: usize, p: Processor)
-    requires { ⌜ (length (now bytes) ≡ 16) × (at ≤ 8) ⌝ }
-    ensures { λ _. ⌜ now (bytes .exit) ≡ written (now (bytes .entry)) (λ i. at + i) (λ i. getD (recordBytes p) i 0) 8 ⌝ }
+// Writes the record q over the bytes of the record p, from which it differs in condition code and prefix only.
+pub(crate) fn put_record(bytes: &mut [u8], at: usize, p: Processor, q: Processor)
+    requires { ⌜ (length (now bytes) ≡ 16) × (at ≤ 8) × Holds (now bytes) at p × (q ≡ withPrefix (withCode p (q .code)) (q .prefix)) ⌝ }
+    ensures { λ _. ⌜ now (bytes .exit) ≡ written (now (bytes .entry)) (λ i. at + i) (λ i. getD (recordBytes q) i 0) 8 ⌝ }
 {
-    bytes[at] = p.key;
-    bytes[at + 1] = controls(p);
-    bytes[at + 2] = p.code;
-    bytes[at + 3] = 0;
-    bytes[at + 4] = (p.prefix % 256) as u8;
-    bytes[at + 5] = (p.prefix / 256 % 256) as u8;
-    bytes[at + 6] = (p.prefix / 65536 % 256) as u8;
-    bytes[at + 7] = (p.prefix / 16777216 % 256) as u8;
+    put_code(bytes, at, p.code, q.code);
+    put_prefix(bytes, at, p.prefix, q.prefix);
 }

@@ -1,7 +1,7 @@
 -- Laws of every request: the answer is the verdict of the table, with any number but 0 nothing changes, lengths stay, a request reads and
--- changes no record but its own processor's. The proofs go by the verdict and, where it is clear, by the kind of request.
--- Assumes nothing.
-use Prim.Native.Nat.{ℕ, _≤_}
+-- changes no record but its own processor's, and of that condition code and prefix only. The proofs go by the verdict and, where it is
+-- clear, by the kind of request. Assumes nothing.
+use Prim.Native.Nat.{ℕ, _≤_, _<_}
 use mathlib.Core.Path.{_≡_, refl, sym, ap, subst, _∙_}
 use mathlib.Core.Bool.{Bool, true, false, cond, not}
 use mathlib.Core.Logic.{_≢_, _↔_}
@@ -9,7 +9,8 @@ use mathlib.Core.List.{List}
 use lib.Dec.{eqb}
 use native.Mathlib.Omega.{arith}
 use lib.ListN.{length, set, length-set}
-use lib.Seq.{set-getD, getD-set-other}
+use lib.Seq.{set-getD, set-out, getD-set-same, getD-set-other}
+use native.Mathlib.Decide.{decLt}
 use borrow.Author.Tests.{le-ltb}
 use Rattle.machine.specs.declared.Settings.{Settings}
 use Rattle.machine.specs.declared.Processor.{Processor}
@@ -18,6 +19,7 @@ use Rattle.machine.specs.declared.KeyOperation.{KeyOperation}
 use Rattle.machine.specs.declared.KeyOperation.the-variants.{Insert, Set, Reset}
 use Rattle.machine.specs.declared.Request.{Request}
 use Rattle.machine.specs.declared.Request.the-variants.{Access, Key, Prefix}
+use Rattle.machine.specs.declared.PrefixInstruction.the-variants.{SetPrefix, StorePrefix}
 use Rattle.machine.specs.declared.Reason.{Reason}
 use Rattle.machine.specs.declared.Reason.the-variants.{Configuration, Record, Operand, Operation, Privileged, SpecialOperation, Specification, Addressing, AbsoluteAddress, Protection}
 use Rattle.machine.specs.declared.Answer.the-variants.{Refused}
@@ -27,7 +29,7 @@ use Rattle.machine.specs.Numbers.{own, lengthsValid}
 use Rattle.machine.specs.Answers.{number, Values, values, line, firstOf, firstLine}
 use Rattle.machine.specs.KeyInstructions.{operation, keyCount, keysLeft}
 use Rattle.machine.specs.Table.{protection, plan, verdict}
-use Rattle.machine.specs.Step.{Outcome, outcome, storageLeft, bufferLeft, keysRecorded, completed, performed, step}
+use Rattle.machine.specs.Step.{Outcome, outcome, withCode, withPrefix, storageLeft, bufferLeft, keysRecorded, completed, performed, step}
 use Rattle.machine.proofs.Written.{length-written, set-agree}
 use Rattle.machine.proofs.Verdicts.{not-clear, first-none}
 use Rattle.machine.proofs.Plans.{clear-plan}
@@ -99,6 +101,10 @@ completed-lengths s storage keys ps n p buffer (Prefix i) = (refl, refl, length-
 abbrev pub Alike : ℕ → Outcome → Outcome → Type 0
 Alike n a b =
     (a .answer ≡ b .answer) × (a .storage ≡ b .storage) × (a .keys ≡ b .keys) × (a .buffer ≡ b .buffer) × (own (a .processors) n ≡ own (b .processors) n)
+
+-- q is p but for condition code and prefix: the PSW key, problem state and the control bits are the same
+abbrev pub Kept : Processor → Processor → Type 0
+Kept p q = q ≡ withPrefix (withCode p (q .code)) (q .prefix)
 
 module _ (s : Settings) (storage keys : List ℕ) (ps : List Processor) (n : ℕ) (r : Request) (buffer : List ℕ) where
   -- what the request leaves
@@ -181,6 +187,21 @@ module _ (s : Settings) (storage keys : List ℕ) (ps : List Processor) (n : ℕ
       go (Access kind start count) = refl
       go (Key i) = getD-set-other ps n m _ _ d
       go (Prefix i) = getD-set-other ps n m _ _ d
+
+  -- of its own processor's record a request changes condition code and prefix only
+  pub own-record-kept : Kept (own ps n) (own (after .processors) n)
+  unfolding completed
+  own-record-kept = either-way (λ o. Kept (own ps n) (own (o .processors) n)) (λ answer. refl) (go r)
+    where
+      replaced : (q : Processor) → Kept (own ps n) q → Dec (n < length ps) → Kept (own ps n) (own (set ps n q) n)
+      replaced q e (yes h) = rw (getD-set-same ps n q _ h) e
+      replaced q e (no h) = rw (set-out ps n q (omega arith))
+
+      go : (r : Request) → Kept (own ps n) (own (completed s storage keys ps n (own ps n) r buffer .processors) n)
+      go (Access kind start count) = refl
+      go (Key i) = replaced _ refl (decLt n (length ps))
+      go (Prefix (SetPrefix word)) = replaced _ refl (decLt n (length ps))
+      go (Prefix StorePrefix) = replaced _ refl (decLt n (length ps))
 
   -- what a request answers and leaves depends on no record but its processor's own
   pub own-record-only : (qs : List Processor) → length ps ≡ length qs → own ps n ≡ own qs n → Alike n after (step s storage keys qs n r buffer)

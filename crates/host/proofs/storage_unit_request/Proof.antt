@@ -16,14 +16,11 @@ returns c = rw (c .pack .ensures, le-ltb _ _ (c .before .if1 .taken))
 settings-of-requires : tie.Need-settings-of-requires
 settings-of-requires c κs = search needs
 
-request-of-requires : tie.Need-request-of-requires
-request-of-requires c κs = search needs
-
 processor-of-requires : tie.Need-processor-of-requires
 processor-of-requires c κs = search needs
 
 serve-bytes-requires : tie.Need-serve-bytes-requires
-serve-bytes-requires c κs = λ h. sixteen-bytes (c .before .before .before .before .before .before .before .before .before .before .before .before .args .records .now) (c .before .before .before .before .before .before .before .before .before .before .before .before .args .processor) (rw (c .before .before .before .before .processor-of .ensures) at h)
+serve-bytes-requires c κs = λ h. sixteen-bytes (c .before .before .before .before .before .before .before .before .before .before .before .args .records .now) (c .before .before .before .before .before .before .before .before .before .before .before .args .processor) (rw (c .before .before .before .before .processor-of .ensures) at h)
 
 same-length : tie.Need-same-length
 same-length c = search needs
@@ -39,7 +36,7 @@ same-length-4 c = search needs
 
 returns-2 : tie.Need-returns-2
 unfolding called
-returns-2 c = rw (lt-ltb _ _ (c .before .before .before .before .before .before .before .before .before .before .before .before .before .before .before .before .if1 .left)) (rw (c .before .before .before .before .before .before .before .before .before .before .before .before .before .processor-of .ensures, c .before .before .before .before .before .before .before .before .before .before .before .before .before .before .request-of .ensures, c .before .before .before .before .before .before .before .before .before .before .before .before .before .before .before .settings-of .ensures) at (c .before .before .before .before .before .before .before .before .serve-bytes .ensures))
+returns-2 c = rw (lt-ltb _ _ (c .before .before .before .before .before .before .before .before .before .before .before .before .before .before .before .if1 .left)) (rw (c .before .before .before .before .before .before .before .before .before .before .before .before .before .processor-of .ensures, c .before .before .before .before .before .before .before .before .before .before .before .before .before .before .settings-of .ensures) at (c .before .before .before .before .before .before .before .before .serve-bytes .ensures))
 
 pub storage-unit-request-spec : {M : Type 1} → statement M
 storage-unit-request-spec =
@@ -48,7 +45,6 @@ storage-unit-request-spec =
     pack-requires
     returns
     settings-of-requires
-    request-of-requires
     processor-of-requires
     serve-bytes-requires
     same-length

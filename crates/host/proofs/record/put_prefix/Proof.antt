@@ -1,0 +1,76 @@
+-- `put_prefix` writes the four bytes where the prefix has changed; else they stand there already. Assumes nothing.
+use mathlib.Core.Path.{sym}
+use native.Mathlib.Omega.{arith}
+use lib.ListN.{length-set}
+use Rattle.machine.specs.Numbers.{written}
+use Rattle.machine.proofs.Written.{written-back}
+use borrow.Author.Needs.{needs}
+use Rattle.host.proofs.record.put_prefix.Statement.{statement}
+use Rattle.host.proofs.record.put_prefix.Tie as tie
+
+cast-bytes : tie.Need-cast-bytes
+cast-bytes c = search needs
+
+add-bytes : tie.Need-add-bytes
+add-bytes c = search needs
+
+slice-write-bytes : tie.Need-slice-write-bytes
+slice-write-bytes c = search needs
+
+cast-bytes-2 : tie.Need-cast-bytes-2
+cast-bytes-2 c = search needs
+
+add-bytes-2 : tie.Need-add-bytes-2
+add-bytes-2 c = search needs
+
+slice-write-bytes-2 : tie.Need-slice-write-bytes-2
+slice-write-bytes-2 c = simp length-set (omega arith)
+
+cast-bytes-3 : tie.Need-cast-bytes-3
+cast-bytes-3 c = search needs
+
+add-bytes-3 : tie.Need-add-bytes-3
+add-bytes-3 c = search needs
+
+slice-write-bytes-3 : tie.Need-slice-write-bytes-3
+slice-write-bytes-3 c = simp length-set (omega arith)
+
+cast-bytes-4 : tie.Need-cast-bytes-4
+cast-bytes-4 c = search needs
+
+add-bytes-4 : tie.Need-add-bytes-4
+add-bytes-4 c = search needs
+
+slice-write-bytes-4 : tie.Need-slice-write-bytes-4
+slice-write-bytes-4 c = simp length-set (omega arith)
+
+same-length : tie.Need-same-length
+same-length c = search needs
+
+returns : tie.Need-returns
+unfolding written
+returns c = search needs
+
+returns-2 : tie.Need-returns-2
+unfolding written
+returns-2 c = rw (← c .if1 .left) (sym (written-back (c .before .args .bytes .now) _ _ 4 (c .before .pre .2)))
+
+pub put-prefix-spec : {M : Type 1} → statement M
+put-prefix-spec =
+    tie.close
+    (tie.spec
+    cast-bytes
+    add-bytes
+    slice-write-bytes
+    cast-bytes-2
+    add-bytes-2
+    slice-write-bytes-2
+    cast-bytes-3
+    add-bytes-3
+    slice-write-bytes-3
+    cast-bytes-4
+    add-bytes-4
+    slice-write-bytes-4
+    same-length
+    returns
+    returns-2)

@@ -1,25 +1,25 @@
--- A call by the outcome of the storage unit's request: completed, refused, or without records. Assumes nothing.
-use Prim.Native.Nat.{ℕ, zero, suc, _+_, _*_, _<_}
+-- A call by the outcome of the storage unit's request: completed, refused, or of no processor. Assumes nothing.
+use Prim.Native.Nat.{ℕ, zero, suc, _+_, _*_, _<_, _≤_}
 use mathlib.Core.Path.{_≡_, refl, sym, ap, subst, _∙_}
-use mathlib.Core.Bool.{Bool, true, false, cond, _&&_}
+use mathlib.Core.Bool.{Bool, true, false, cond}
 use mathlib.Core.List.{List}
 use native.Mathlib.Omega.{arith}
 use lib.ListN.{length, getD, set}
 use lib.Seq.{getD-set-same}
-use lib.Dec.{eqb, ltb}
-use borrow.Author.Tests.{ne-eqb, eqb-true}
+use borrow.Author.Tests.{ne-eqb}
 use Rattle.machine.specs.declared.Settings.{Settings}
 use Rattle.machine.specs.declared.Processor.{Processor}
 use Rattle.machine.specs.declared.Request.{Request}
 use Rattle.machine.specs.declared.Reason.{Reason}
+use Rattle.machine.specs.declared.Reason.the-variants.{Configuration, Record}
 use Rattle.machine.specs.declared.Answer.{Answer}
 use Rattle.machine.specs.declared.Answer.the-variants.{Completed, Refused}
-use Rattle.machine.specs.Numbers.{recordValid, own, written}
+use Rattle.machine.specs.Numbers.{lengthsValid, recordValid, own, written}
 use Rattle.machine.specs.Answers.{values}
 use Rattle.machine.specs.Step.{outcome, step}
 use Rattle.machine.proofs.Plans.{Cleared, plan-clear}
-use Rattle.machine.proofs.Requests.{refusal-number, completed-plan, Kept, own-record-kept}
-use Rattle.host.specs.Boundary.{recordAt, recordBytes, Holds, pairOf, processorOf, packed, left, recordsLeft, leftBy}
+use Rattle.machine.proofs.Requests.{refusal-number, completed-plan, other-number-refused, Kept, own-record-kept}
+use Rattle.host.specs.Boundary.{recordAt, recordBytes, Holds, pairOf, packed, left, recordsLeft, leftBy}
 use Rattle.host.proofs.Records.{valid-record-is-written}
 
 -- the record of a processor in the bytes
@@ -30,8 +30,11 @@ own-in-bytes bytes (suc (suc n)) h = absurd (omega arith)
 
 -- The request of processor n, whose record in the bytes is p, leaves these, and q as its record.
 module _ (bytes : List ℕ) (s : Settings) (storage keys : List ℕ) (n : ℕ) {p : Processor} (r : Request) (buffer : List ℕ)
-    (answer : Answer) {storage′ keys′ : List ℕ} {q : Processor} {buffer′ : List ℕ} (found : p ≡ own (pairOf bytes) n)
+    (answer : Answer) {storage′ keys′ : List ℕ} {q : Processor} {buffer′ : List ℕ} (small : n < 2) (read : p ≡ recordAt bytes (n * 8))
     (served : (ps : List Processor) → own ps n ≡ p → outcome answer storage′ keys′ (set ps n q) buffer′ ≡ step s storage keys ps n r buffer) where
+  found : p ≡ own (pairOf bytes) n
+  found = read ∙ own-in-bytes bytes n small
+
   stepped : outcome answer storage′ keys′ (set (pairOf bytes) n q) buffer′ ≡ step s storage keys (pairOf bytes) n r buffer
   stepped = served (pairOf bytes) (sym found)
 
@@ -41,23 +44,14 @@ module _ (bytes : List ℕ) (s : Settings) (storage keys : List ℕ) (n : ℕ) {
         plan-clear _ _ _ _ _ _ _
         (completed-plan s storage keys (pairOf bytes) n r buffer (sym (ap (λ o. o .answer .number) stepped) ∙ ap (λ a. values a .number) e))
 
-    -- a completed request has a processor with a record
-    pub completed-number : n < 2
-    completed-number = passed .number
-
-    here : recordAt bytes (n * 8) ≡ p
-    here = own-in-bytes bytes n completed-number ∙ sym found
-
     after : own (set (pairOf bytes) n q) n ≡ q
-    after = getD-set-same (pairOf bytes) n q _ completed-number
+    after = getD-set-same (pairOf bytes) n q _ small
 
     -- the bytes of the record are those of p, and q is p but for condition code and prefix
-    pub completed-record : ((i : ℕ) → getD bytes i 0 < 256) → (n < 2) × Holds bytes (n * 8) p × Kept p q
+    pub completed-record : ((i : ℕ) → getD bytes i 0 < 256) → Holds bytes (n * 8) p × Kept p q
     completed-record byte = (
-      completed-number,
-      subst (Holds bytes (n * 8)) here
-          (valid-record-is-written bytes (n * 8) (length storage) byte
-          (subst (λ p. recordValid (length storage) p ≡ true) (sym (here ∙ found)) (passed .own))),
+      subst (Holds bytes (n * 8)) (sym read)
+          (valid-record-is-written bytes (n * 8) (length storage) byte (subst (λ p. recordValid (length storage) p ≡ true) (sym found ∙ read) (passed .own))),
       rw (after, ← found) at
           (subst (λ o. Kept (own (pairOf bytes) n) (own (o .processors) n)) (sym stepped) (own-record-kept s storage keys (pairOf bytes) n r buffer)),
     )
@@ -74,10 +68,15 @@ module _ (bytes : List ℕ) (s : Settings) (storage keys : List ℕ) (n : ℕ) {
   unfolding recordsLeft
   refused-call {reason} e given = rw given (rw (e, ne-eqb _ _ (refusal-number reason)) at (ap (leftBy bytes n) stepped))
 
--- a processor that is 0 or 1 has its record in sixteen bytes
-pub sixteen-bytes : (bytes : List ℕ) (n : ℕ) → processorOf bytes n < 2 → length bytes ≡ 16
-sixteen-bytes bytes n = go (eqb (length bytes) 16) refl
+-- The request of no processor changes nothing.
+pub no-processor-call : (bytes : List ℕ) (s : Settings) (storage keys : List ℕ) (n : ℕ) (r : Request) (buffer : List ℕ) → 2 ≤ n
+    → left (packed (values (cond (lengthsValid s (length storage) (length keys)) (Refused Record 0) (Refused Configuration 0)))) storage keys bytes buffer
+    ≡ leftBy bytes n (step s storage keys (pairOf bytes) n r buffer)
+unfolding recordsLeft
+no-processor-call bytes s storage keys n r buffer h =
+    go (lengthsValid s (length storage) (length keys)) ∙ ap (leftBy bytes n) (sym (other-number-refused s storage keys (pairOf bytes) n r buffer h))
   where
-    go : (b : Bool) → eqb (length bytes) 16 ≡ b → cond (b && ltb n 2) n 2 < 2 → length bytes ≡ 16
-    go true e h = eqb-true _ _ e
-    go false e h = absurd (omega arith)
+    go : (b : Bool) → left (packed (values (cond b (Refused Record 0) (Refused Configuration 0)))) storage keys bytes buffer
+        ≡ leftBy bytes n (record { answer = values (cond b (Refused Record 0) (Refused Configuration 0)); storage = storage; keys = keys; processors = pairOf bytes; buffer = buffer })
+    go true = refl
+    go false = refl

@@ -9,49 +9,35 @@ use crate::record::settings_of;
 use crate::request::pack;
 use crate::request::request_of;
 use machine::Answer;
-use machine::Processor;
 use machine::Reason;
 use machine::Settings;
+use machine::numbers::lengths_valid;
 ghost use mathlib.Core.Path.{_≡_};
 ghost use Prim.Native.Nat.{_<_};
-ghost use mathlib.Core.Bool.{cond, _&&_};
-ghost use lib.Dec.{eqb, ltb};
+ghost use mathlib.Core.Bool.{cond};
 ghost use lib.ListN.{length};
-ghost use Rattle.machine.specs.Numbers.{own};
+ghost use Rattle.machine.specs.Numbers.{lengthsValid};
 ghost use Rattle.machine.specs.Step.{step};
 ghost use Rattle.host.specs.Boundary.{pairOf, requestOf, left, leftBy, called};
 
-// The record of the processor with this number in the bytes; where it is not 0 or 1, a record of zeros.
-fn record_of(records: &[u8], number: usize) -> Processor
-    requires { ⌜ (number < 2 → length (now records) ≡ 16) ⌝ }
-    ensures { λ r. ⌜ r ≡ own (pairOf (now (records .entry))) number ⌝ }
+// The answer to a request of no processor: its number is not 0 or 1, or there are not sixteen bytes of records. No record is looked at.
+fn no_processor(settings: Settings, storage_length: usize, key_length: usize) -> Answer
+    ensures { λ r. ⌜ r ≡ cond (lengthsValid settings «storage_length» «key_length») (Answer.Refused Reason.Record 0) (Answer.Refused Reason.Configuration 0) ⌝ }
 {
-    if number < 2 {
-        record_at(records, number * 8)
+    if lengths_valid(settings, storage_length, key_length) {
+        Answer::Refused {
+            reason: Reason::Record,
+            place: 0,
+        }
     } else {
-        Processor {
-            key: 0,
-            problem: false,
-            low_protection: false,
-            key_control: false,
-            prefix: 0,
-            code: 0,
+        Answer::Refused {
+            reason: Reason::Configuration,
+            place: 0,
         }
     }
 }
 
-// The processor's number; 2 where it is not 0 or 1 or there are not sixteen bytes of records.
-fn processor_of(length: usize, processor: u32) -> usize
-    ensures { λ r. ⌜ r ≡ cond (eqb length 16 && ltb processor 2) processor 2 ⌝ }
-{
-    if (length == 16) & (processor < 2) {
-        processor as usize
-    } else {
-        2
-    }
-}
-
-// A request over the bytes of the records. A completed one writes what it changes of its own processor's record.
+// A request of processor 0 or 1 over the sixteen bytes of the records. A completed one writes what it changes of its own processor's record.
 fn serve_bytes(
     settings: Settings,
     storage: &mut [u8],
@@ -63,10 +49,10 @@ fn serve_bytes(
     second: u32,
     buffer: &mut [u8],
 ) -> u64
-    requires { ⌜ (number < 2 → length (now records) ≡ 16) ⌝ }
+    requires { ⌜ (length (now records) ≡ 16) × (number < 2) ⌝ }
     ensures { λ r. ⌜ left r (now (storage .exit)) (now (keys .exit)) (now (records .exit)) (now (buffer .exit)) ≡ leftBy (now (records .entry)) number (step settings (now (storage .entry)) (now (keys .entry)) (pairOf (now (records .entry))) number (requestOf operation first second) (now (buffer .entry))) ⌝ }
 {
-    let p = record_of(&records[..], number);
+    let p = record_at(&records[..], number * 8);
     let asked = request_of(operation, first, second);
     let served = storage_unit::serve(settings, storage, keys, p, number, asked, buffer);
     let answer = served.answer;
@@ -105,16 +91,19 @@ pub extern "C" fn storage_unit_request(
         });
     }
     let machine = settings_of(settings);
-    let number = processor_of(records.len(), processor);
-    serve_bytes(
-        machine,
-        storage,
-        keys,
-        records,
-        number,
-        operation,
-        first,
-        second,
-        buffer,
-    )
+    if (records.len() == 16) & (processor < 2) {
+        serve_bytes(
+            machine,
+            storage,
+            keys,
+            records,
+            processor as usize,
+            operation,
+            first,
+            second,
+            buffer,
+        )
+    } else {
+        pack(no_processor(machine, storage.len(), keys.len()))
+    }
 }

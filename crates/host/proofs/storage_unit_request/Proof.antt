@@ -1,7 +1,9 @@
--- `storage_unit_request` is the call: by the settings. Assumes nothing.
-use borrow.Author.Tests.{lt-ltb, le-ltb}
+-- `storage_unit_request` is the call: by the settings, then by whether the request has a processor. Assumes nothing.
+use native.Mathlib.Omega.{arith}
+use borrow.Author.Tests.{lt-ltb, le-ltb, ltb-true, eqb-true}
+use Rattle.machine.proofs.Verdicts.{both}
 use Rattle.host.specs.Boundary.{called}
-use Rattle.host.proofs.Calls.{sixteen-bytes}
+use Rattle.host.proofs.Calls.{no-processor-call}
 use borrow.Author.Needs.{needs}
 use Rattle.host.proofs.storage_unit_request.Statement.{statement}
 use Rattle.host.proofs.storage_unit_request.Tie as tie
@@ -16,11 +18,14 @@ returns c = rw (c .pack .ensures, le-ltb _ _ (c .before .if1 .taken))
 settings-of-requires : tie.Need-settings-of-requires
 settings-of-requires c κs = search needs
 
-processor-of-requires : tie.Need-processor-of-requires
-processor-of-requires c κs = search needs
-
 serve-bytes-requires : tie.Need-serve-bytes-requires
-serve-bytes-requires c κs = λ h. sixteen-bytes (c .before .before .before .before .before .before .before .before .before .before .before .args .records .now) (c .before .before .before .before .before .before .before .before .before .before .before .args .processor) (rw (c .before .before .before .before .processor-of .ensures) at h)
+serve-bytes-requires c κs = let (sixteen, one) = both _ _ (c .before .before .before .before .if2 .taken) in (eqb-true _ _ sixteen, ltb-true _ _ one)
+
+no-processor-requires : tie.Need-no-processor-requires
+no-processor-requires c κs = search needs
+
+pack-requires-2 : tie.Need-pack-requires-2
+pack-requires-2 c κs = search needs
 
 same-length : tie.Need-same-length
 same-length c = search needs
@@ -36,7 +41,11 @@ same-length-4 c = search needs
 
 returns-2 : tie.Need-returns-2
 unfolding called
-returns-2 c = rw (lt-ltb _ _ (c .before .before .before .before .before .before .before .before .before .before .before .before .before .before .before .if1 .left)) (rw (c .before .before .before .before .before .before .before .before .before .before .before .before .before .processor-of .ensures, c .before .before .before .before .before .before .before .before .before .before .before .before .before .before .settings-of .ensures) at (c .before .before .before .before .before .before .before .before .serve-bytes .ensures))
+returns-2 c = rw (lt-ltb _ _ (c .before .before .before .before .before .before .before .before .before .before .before .before .before .before .before .if1 .left), c .before .before .before .before .before .before .before .before .before .before .before .before .before .if2 .taken) (rw (c .before .before .before .before .before .before .before .before .before .before .before .before .before .before .settings-of .ensures) at (c .before .before .before .before .before .before .before .before .serve-bytes .ensures))
+
+returns-3 : tie.Need-returns-3
+unfolding called
+returns-3 c = rw (c .pack2 .ensures, c .before .no-processor .ensures, c .before .before .before .settings-of .ensures, lt-ltb _ _ (c .before .before .before .before .if1 .left), c .before .before .if2 .left) (no-processor-call (c .before .before .before .before .before .before .before .before .before .args .records .now) _ _ _ _ _ _ (omega arith))
 
 pub storage-unit-request-spec : {M : Type 1} → statement M
 storage-unit-request-spec =
@@ -45,10 +54,12 @@ storage-unit-request-spec =
     pack-requires
     returns
     settings-of-requires
-    processor-of-requires
     serve-bytes-requires
+    no-processor-requires
+    pack-requires-2
     same-length
     same-length-2
     same-length-3
     same-length-4
-    returns-2)
+    returns-2
+    returns-3)

@@ -3,10 +3,10 @@ use machine::AccessKind;
 use machine::Answer;
 use machine::KeyInstruction;
 use machine::PrefixInstruction;
-use machine::Reason;
 use machine::Request;
+use machine::answers::number_of;
 ghost use mathlib.Core.Path.{_≡_};
-ghost use Rattle.machine.specs.Answers.{number, values};
+ghost use Rattle.machine.specs.Answers.{values};
 ghost use Rattle.host.specs.Boundary.{requestOf, packed};
 
 // The request with this operation number and operands.
@@ -49,24 +49,6 @@ pub(crate) fn request_of(operation: u32, first: u32, second: u32) -> Request
             start: 0,
             count: 0,
         },
-    }
-}
-
-// The number of the table for a reason.
-fn number_of(reason: Reason) -> u64
-    ensures { λ r. ⌜ r ≡ number reason ⌝ }
-{
-    match reason {
-        Reason::Configuration => 64,
-        Reason::Record => 65,
-        Reason::Operand => 66,
-        Reason::Operation => 1,
-        Reason::Privileged => 2,
-        Reason::SpecialOperation => 19,
-        Reason::Specification => 6,
-        Reason::Addressing => 5,
-        Reason::AbsoluteAddress => 67,
-        Reason::Protection => 4,
     }
 }
 

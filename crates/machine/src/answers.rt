@@ -1,8 +1,26 @@
-// Verdicts: the lines of the table of answers, combined.
+// The table of answers: the numbers of its lines, and verdicts, its lines combined.
 use crate::Reason;
 use crate::Verdict;
 ghost use mathlib.Core.Path.{_≡_};
-ghost use Rattle.machine.specs.Answers.{line, firstOf};
+ghost use Rattle.machine.specs.Answers.{number, line, firstOf};
+
+// The number of the table for a reason.
+pub fn number_of(reason: Reason) -> u64
+    ensures { λ r. ⌜ r ≡ number reason ⌝ }
+{
+    match reason {
+        Reason::Configuration => 64,
+        Reason::Record => 65,
+        Reason::Operand => 66,
+        Reason::Operation => 1,
+        Reason::Privileged => 2,
+        Reason::SpecialOperation => 19,
+        Reason::Specification => 6,
+        Reason::Addressing => 5,
+        Reason::AbsoluteAddress => 67,
+        Reason::Protection => 4,
+    }
+}
 
 // A line that refuses the request as a whole, exactly when the test holds.
 pub fn refuse(reason: Reason, test: bool) -> Verdict

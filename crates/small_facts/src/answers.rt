@@ -1,30 +1,13 @@
 // Number, place and word of an answer, as the table of answers has them.
 use machine::Answer;
-use machine::Reason;
+use machine::answers::number_of;
 ghost use mathlib.Core.Path.{_≡_};
-ghost use Rattle.machine.specs.Answers.{numberOf, placeOf, wordOf, number as numberIs};
+ghost use Rattle.machine.specs.Answers.{numberOf, placeOf, wordOf};
 
 pub(crate) struct Values {
-    pub(crate) number: u32,
+    pub(crate) number: u64,
     pub(crate) place: u32,
     pub(crate) word: u32,
-}
-
-fn number(reason: Reason) -> u32
-    ensures { λ r. ⌜ r ≡ numberIs reason ⌝ }
-{
-    match reason {
-        Reason::Configuration => 64,
-        Reason::Record => 65,
-        Reason::Operand => 66,
-        Reason::Operation => 1,
-        Reason::Privileged => 2,
-        Reason::SpecialOperation => 19,
-        Reason::Specification => 6,
-        Reason::Addressing => 5,
-        Reason::AbsoluteAddress => 67,
-        Reason::Protection => 4,
-    }
 }
 
 pub(crate) fn values_of(answer: Answer) -> Values
@@ -37,7 +20,7 @@ pub(crate) fn values_of(answer: Answer) -> Values
             word,
         },
         Answer::Refused { reason, place } => {
-            let number = number(reason);
+            let number = number_of(reason);
             Values {
                 number,
                 place,

@@ -15,11 +15,12 @@ use Rattle.machine.specs.declared.Reason.the-variants.{Configuration, Record}
 use Rattle.machine.specs.declared.Answer.{Answer}
 use Rattle.machine.specs.declared.Answer.the-variants.{Completed, Refused}
 use Rattle.machine.specs.Numbers.{lengthsValid, recordValid, own, written}
-use Rattle.machine.specs.Answers.{values}
+use Rattle.machine.specs.Answers.{numberOf, values}
 use Rattle.machine.specs.Step.{outcome, step}
 use Rattle.machine.proofs.Plans.{Cleared, plan-clear}
+use Rattle.machine.proofs.Conditions.{condition-1, answer-in-table}
 use Rattle.machine.proofs.Requests.{refusal-number, completed-plan, other-number-refused, Kept, own-record-kept}
-use Rattle.host.specs.Boundary.{recordAt, recordBytes, Holds, pairOf, packed, left, recordsLeft, leftBy}
+use Rattle.host.specs.Boundary.{recordAt, recordBytes, Holds, pairOf, packed, left, recordsLeft, leftBy, numberIn, CallCondition1}
 use Rattle.host.proofs.Records.{valid-record-is-written}
 
 -- the record of a processor in the bytes
@@ -27,6 +28,16 @@ pub own-in-bytes : (bytes : List ℕ) (n : ℕ) → n < 2 → recordAt bytes (n 
 own-in-bytes bytes zero h = refl
 own-in-bytes bytes (suc zero) h = refl
 own-in-bytes bytes (suc (suc n)) h = absurd (omega arith)
+
+-- a result of `pack`
+abbrev pub Packs : ℕ → Answer → Type 0
+Packs result answer = (result ≡ packed (values answer)) × (numberIn result ≡ numberOf answer)
+
+-- condition 1 of a call that changes nothing, whatever its answer
+pub nothing-changes : (answer : Answer) {result : ℕ} {storage keys bytes buffer storage′ keys′ bytes′ buffer′ : List ℕ} → Packs result answer
+    → storage′ ≡ storage → keys′ ≡ keys → bytes′ ≡ bytes → buffer′ ≡ buffer
+    → CallCondition1 result storage keys bytes buffer storage′ keys′ bytes′ buffer′
+nothing-changes answer given a b c d = record { answered = rw (given .1) (answer-in-table answer); unchanged = λ h. (a, b, c, d) }
 
 -- The request of processor n, whose record in the bytes is p, leaves these, and q as its record.
 module _ (bytes : List ℕ) (s : Settings) (storage keys : List ℕ) (n : ℕ) {p : Processor} (r : Request) (buffer : List ℕ)
@@ -57,18 +68,27 @@ module _ (bytes : List ℕ) (s : Settings) (storage keys : List ℕ) (n : ℕ) {
     )
 
     pub completed-call : {result : ℕ} {bytes′ : List ℕ} → bytes′ ≡ written bytes (λ i. n * 8 + i) (λ i. getD (recordBytes q) i 0) 8
-        → result ≡ packed (values (Completed word))
-        → left result storage′ keys′ bytes′ buffer′ ≡ leftBy bytes n (step s storage keys (pairOf bytes) n r buffer)
+        → Packs result (Completed word)
+        → CallCondition1 result storage keys bytes buffer storage′ keys′ bytes′ buffer′
+        × (left result storage′ keys′ bytes′ buffer′ ≡ leftBy bytes n (step s storage keys (pairOf bytes) n r buffer))
     unfolding recordsLeft
-    completed-call put given =
-        rw (given, put ∙ ap (λ q. written bytes (λ i. n * 8 + i) (λ i. getD (recordBytes q) i 0) 8) (sym after)) (rw e at (ap (leftBy bytes n) stepped))
+    completed-call put given = (
+      record { answered = rw (given .1); unchanged = λ h. absurd (h (given .1)) },
+      rw (given .0, put ∙ ap (λ q. written bytes (λ i. n * 8 + i) (λ i. getD (recordBytes q) i 0) 8) (sym after)) (rw e at (ap (leftBy bytes n) stepped)),
+    )
 
-  pub refused-call : {reason : Reason} {place result : ℕ} → answer ≡ Refused reason place → result ≡ packed (values (Refused reason place))
-      → left result storage′ keys′ bytes buffer′ ≡ leftBy bytes n (step s storage keys (pairOf bytes) n r buffer)
+  pub refused-call : {reason : Reason} {place result : ℕ} → answer ≡ Refused reason place → Packs result (Refused reason place)
+      → CallCondition1 result storage keys bytes buffer storage′ keys′ bytes buffer′
+      × (left result storage′ keys′ bytes buffer′ ≡ leftBy bytes n (step s storage keys (pairOf bytes) n r buffer))
   unfolding recordsLeft
-  refused-call {reason} e given = rw given (rw (e, ne-eqb _ _ (refusal-number reason)) at (ap (leftBy bytes n) stepped))
+  refused-call {reason} {place} e given =
+      let met = condition-1 s storage keys (pairOf bytes) n r buffer answer storage′ keys′ (set (pairOf bytes) n q) buffer′ stepped in
+      let (storages, keyed, pair, buffers) = met .unchanged (rw e (refusal-number reason)) in (
+        nothing-changes (Refused reason place) given storages keyed refl buffers,
+        rw (given .0) (rw (e, ne-eqb _ _ (refusal-number reason)) at (ap (leftBy bytes n) stepped)),
+      )
 
--- The request of no processor changes nothing.
+-- The answer to a request of no processor. Nothing changes.
 pub no-processor-call : (bytes : List ℕ) (s : Settings) (storage keys : List ℕ) (n : ℕ) (r : Request) (buffer : List ℕ) → 2 ≤ n
     → left (packed (values (cond (lengthsValid s (length storage) (length keys)) (Refused Record 0) (Refused Configuration 0)))) storage keys bytes buffer
     ≡ leftBy bytes n (step s storage keys (pairOf bytes) n r buffer)

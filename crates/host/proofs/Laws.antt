@@ -1,22 +1,14 @@
--- Bounds that keep the boundary's sums in their types, and the operation numbers past the last. Assumes nothing.
-use Prim.Native.Nat.{ℕ, suc, _≤_}
+-- An answer can be read from its number, and the operation numbers past the last. Assumes nothing.
+use Prim.Native.Nat.{ℕ, suc, _/_, _%_, _<_, _≤_}
 use mathlib.Core.Path.{_≡_}
 use native.Mathlib.Omega.{arith}
-use Rattle.machine.specs.declared.Reason.{Reason}
-use Rattle.machine.specs.declared.Reason.the-variants.{Configuration, Record, Operand, Operation, Privileged, SpecialOperation, Specification, Addressing, AbsoluteAddress, Protection}
-use Rattle.machine.specs.Answers.{number}
+use Rattle.machine.specs.Answers.{Values}
+use Rattle.host.specs.Boundary.{packed, numberIn}
 
-pub number-at-most : (r : Reason) → number r ≤ 67
-number-at-most Configuration = omega arith
-number-at-most Record = omega arith
-number-at-most Operand = omega arith
-number-at-most Operation = omega arith
-number-at-most Privileged = omega arith
-number-at-most SpecialOperation = omega arith
-number-at-most Specification = omega arith
-number-at-most Addressing = omega arith
-number-at-most AbsoluteAddress = omega arith
-number-at-most Protection = omega arith
+-- number, place and word from the one number, where the place has sixteen bits and the word 32
+pub answer-is-read : (v : Values) → v .place < 65536 → v .word < 4294967296
+    → (numberIn (packed v) ≡ v .number) × (packed v / 4294967296 % 65536 ≡ v .place) × (packed v % 4294967296 ≡ v .word)
+answer-is-read v p w = (omega arith, omega arith, omega arith)
 
 -- a number that is not below n and is not n is above it
 pub above : {n m : ℕ} → n ≤ m → (m ≡ n → ⊥) → suc n ≤ m

@@ -1,7 +1,8 @@
 -- The boundary for programs in other languages. A call is the step of the storage unit on what its numbers and bytes stand for.
 use Prim.Native.Nat.{ℕ, _+_, _*_, _/_, _%_, _<_}
 use mathlib.Core.Path.{_≡_}
-use mathlib.Core.Bool.{Bool, cond, _&&_}
+use mathlib.Core.Logic.{_≢_}
+use mathlib.Core.Bool.{Bool, true, cond, _&&_}
 use mathlib.Core.List.{List, [], _∷_}
 use lib.ListN.{length, getD}
 use lib.Dec.{eqb, ltb}
@@ -17,6 +18,7 @@ use Rattle.machine.specs.declared.Reason.the-variants.{Configuration}
 use Rattle.machine.specs.Numbers.{own, written}
 use Rattle.machine.specs.Answers.{Values, values}
 use Rattle.machine.specs.Step.{Outcome, step}
+use Rattle.machine.specs.Conditions.{numbers, isIn}
 
 -- a bit with the value v in a number
 abbrev pub bit : ℕ → ℕ → Bool
@@ -118,3 +120,12 @@ called settings storage keys records n operation a b buffer =
     cond (ltb settings 4)
     (leftBy records (processorOf records n) (step (settingsOf settings) storage keys (pairOf records) (processorOf records n) (requestOf operation a b) buffer))
     (left (packed (values (Refused Configuration 0))) storage keys records buffer)
+
+-- the number in an answer
+abbrev pub numberIn : ℕ → ℕ
+numberIn answer = answer / 281474976710656
+
+-- condition 1 of a call: it ends with one answer of the table, and one that is not completed changes nothing lent
+pub record CallCondition1 (answer : ℕ) (storage keys records buffer storage′ keys′ records′ buffer′ : List ℕ) : Type 0 where
+  pub answered : isIn (numberIn answer) numbers ≡ true
+  pub unchanged : numberIn answer ≢ 0 → (storage′ ≡ storage) × (keys′ ≡ keys) × (records′ ≡ records) × (buffer′ ≡ buffer)

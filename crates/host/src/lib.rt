@@ -18,7 +18,7 @@ ghost use mathlib.Core.Bool.{cond};
 ghost use lib.ListN.{length};
 ghost use Rattle.machine.specs.Numbers.{lengthsValid};
 ghost use Rattle.machine.specs.Step.{step};
-ghost use Rattle.host.specs.Boundary.{pairOf, requestOf, left, leftBy, called};
+ghost use Rattle.host.specs.Boundary.{pairOf, requestOf, left, leftBy, called, CallCondition1};
 
 // The answer to a request of no processor: its number is not 0 or 1, or there are not sixteen bytes of records. No record is looked at.
 fn no_processor(settings: Settings, storage_length: usize, key_length: usize) -> Answer
@@ -50,7 +50,8 @@ fn serve_bytes(
     buffer: &mut [u8],
 ) -> u64
     requires { ⌜ (length (now records) ≡ 16) × (number < 2) ⌝ }
-    ensures { λ r. ⌜ left r (now (storage .exit)) (now (keys .exit)) (now (records .exit)) (now (buffer .exit)) ≡ leftBy (now (records .entry)) number (step settings (now (storage .entry)) (now (keys .entry)) (pairOf (now (records .entry))) number (requestOf operation first second) (now (buffer .entry))) ⌝ }
+    ensures condition_1 { λ r. ⌜ CallCondition1 r (now (storage .entry)) (now (keys .entry)) (now (records .entry)) (now (buffer .entry)) (now (storage .exit)) (now (keys .exit)) (now (records .exit)) (now (buffer .exit)) ⌝ }
+    ensures condition_2 { λ r. ⌜ left r (now (storage .exit)) (now (keys .exit)) (now (records .exit)) (now (buffer .exit)) ≡ leftBy (now (records .entry)) number (step settings (now (storage .entry)) (now (keys .entry)) (pairOf (now (records .entry))) number (requestOf operation first second) (now (buffer .entry))) ⌝ }
 {
     let p = record_at(&records[..], number * 8);
     let asked = request_of(operation, first, second);
@@ -82,7 +83,8 @@ pub extern "C" fn storage_unit_request(
     second: u32,
     buffer: &mut [u8],
 ) -> u64
-    ensures { λ r. ⌜ left r (now (storage .exit)) (now (keys .exit)) (now (records .exit)) (now (buffer .exit)) ≡ called settings (now (storage .entry)) (now (keys .entry)) (now (records .entry)) processor operation first second (now (buffer .entry)) ⌝ }
+    ensures condition_1 { λ r. ⌜ CallCondition1 r (now (storage .entry)) (now (keys .entry)) (now (records .entry)) (now (buffer .entry)) (now (storage .exit)) (now (keys .exit)) (now (records .exit)) (now (buffer .exit)) ⌝ }
+    ensures condition_2 { λ r. ⌜ left r (now (storage .exit)) (now (keys .exit)) (now (records .exit)) (now (buffer .exit)) ≡ called settings (now (storage .entry)) (now (keys .entry)) (now (records .entry)) processor operation first second (now (buffer .entry)) ⌝ }
 {
     if 4 <= settings {
         return pack(Answer::Refused {

@@ -6,8 +6,8 @@ use machine::PrefixInstruction;
 use machine::Request;
 use machine::answers::number_of;
 ghost use mathlib.Core.Path.{_≡_};
-ghost use Rattle.machine.specs.Answers.{values};
-ghost use Rattle.host.specs.Boundary.{requestOf, packed};
+ghost use Rattle.machine.specs.Answers.{numberOf, values};
+ghost use Rattle.host.specs.Boundary.{requestOf, packed, numberIn};
 
 // The request with this operation number and operands.
 pub(crate) fn request_of(operation: u32, first: u32, second: u32) -> Request
@@ -52,9 +52,9 @@ pub(crate) fn request_of(operation: u32, first: u32, second: u32) -> Request
     }
 }
 
-// The answer in one number.
+// The answer in one number, from which its number can be read.
 pub(crate) fn pack(answer: Answer) -> u64
-    ensures { λ r. ⌜ r ≡ packed (values answer) ⌝ }
+    ensures { λ r. ⌜ (r ≡ packed (values answer)) × (numberIn r ≡ numberOf answer) ⌝ }
 {
     match answer {
         Answer::Completed { word } => word as u64,

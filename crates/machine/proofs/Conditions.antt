@@ -27,7 +27,7 @@ reason-in-table Addressing = refl
 reason-in-table AbsoluteAddress = refl
 reason-in-table Protection = refl
 
-answer-in-table : (a : Answer) → isIn (numberOf a) numbers ≡ true
+pub answer-in-table : (a : Answer) → isIn (numberOf a) numbers ≡ true
 answer-in-table (Completed w) = refl
 answer-in-table (Refused r p) = reason-in-table r
 

@@ -35,18 +35,21 @@ use Rattle.machine.proofs.Verdicts.{not-clear, first-none}
 use Rattle.machine.proofs.Plans.{clear-plan}
 use Rattle.machine.proofs.AbsoluteAddress.{table-never-67}
 
--- every refusal has a number that is not 0
+-- every refusal has a number from 1 to 67
+pub refusal-bounds : (reason : Reason) → (0 < number reason) × (number reason ≤ 67)
+refusal-bounds Configuration = (omega arith, omega arith)
+refusal-bounds Record = (omega arith, omega arith)
+refusal-bounds Operand = (omega arith, omega arith)
+refusal-bounds Operation = (omega arith, omega arith)
+refusal-bounds Privileged = (omega arith, omega arith)
+refusal-bounds SpecialOperation = (omega arith, omega arith)
+refusal-bounds Specification = (omega arith, omega arith)
+refusal-bounds Addressing = (omega arith, omega arith)
+refusal-bounds AbsoluteAddress = (omega arith, omega arith)
+refusal-bounds Protection = (omega arith, omega arith)
+
 pub refusal-number : (reason : Reason) → number reason ≢ 0
-refusal-number Configuration = omega arith
-refusal-number Record = omega arith
-refusal-number Operand = omega arith
-refusal-number Operation = omega arith
-refusal-number Privileged = omega arith
-refusal-number SpecialOperation = omega arith
-refusal-number Specification = omega arith
-refusal-number Addressing = omega arith
-refusal-number AbsoluteAddress = omega arith
-refusal-number Protection = omega arith
+refusal-number reason e = omega (arith, refusal-bounds reason)
 
 -- the number tells the reason
 reasonOf : ℕ → Reason

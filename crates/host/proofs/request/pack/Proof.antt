@@ -1,6 +1,6 @@
 -- `pack` puts number, place and word side by side. Assumes nothing.
 use native.Mathlib.Omega.{arith}
-use Rattle.host.proofs.Laws.{number-at-most}
+use Rattle.machine.proofs.Requests.{refusal-bounds}
 use borrow.Author.Needs.{needs}
 use Rattle.host.proofs.request.pack.Statement.{statement}
 use Rattle.host.proofs.request.pack.Tie as tie
@@ -18,7 +18,7 @@ number-of-requires : tie.Need-number-of-requires
 number-of-requires c κs = search needs
 
 mul-result : tie.Need-mul-result
-mul-result c = rw (c .number-of .ensures) (omega (arith, number-at-most (c .before .before .answer2 .given .0 .0)))
+mul-result c = rw (c .number-of .ensures) (omega (arith, refusal-bounds (c .before .before .answer2 .given .0 .0)))
 
 cast-result-2 : tie.Need-cast-result-2
 cast-result-2 c = search needs
@@ -27,13 +27,13 @@ mul-result-2 : tie.Need-mul-result-2
 mul-result-2 c = search needs
 
 add-result : tie.Need-add-result
-add-result c = rw (c .number-of .ensures) (omega (arith, number-at-most (c .before .before .answer2 .given .0 .0)))
+add-result c = rw (c .number-of .ensures) (omega (arith, refusal-bounds (c .before .before .answer2 .given .0 .0)))
 
 returns : tie.Need-returns
-returns c = rw (c .before .answer .given .1) (omega arith)
+returns c = rw (c .before .answer .given .1) (omega arith, omega arith)
 
 returns-2 : tie.Need-returns-2
-returns-2 c = rw (c .before .before .answer2 .given .1, c .number-of .ensures) (omega arith)
+returns-2 c = rw (c .before .before .answer2 .given .1, c .number-of .ensures) (omega arith, omega arith)
 
 pub pack-spec : {M : Type 1} → statement M
 pack-spec =

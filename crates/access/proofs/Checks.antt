@@ -1,7 +1,7 @@
 -- The table of an access by unit is the table by byte: of the bytes in one unit the first decides. Assumes nothing.
-use Prim.Native.Nat.{ℕ, _-_, _%_, _<_, _≤_}
+use Prim.Native.Nat.{ℕ, _%_, _<_, _≤_}
 use mathlib.Core.Path.{_≡_, refl, _∙_}
-use mathlib.Core.Bool.{Bool, true, false, cond, not, _&&_}
+use mathlib.Core.Bool.{Bool, true, false, cond, _&&_}
 use mathlib.Core.List.{List}
 use native.Mathlib.Omega.{arith}
 use native.Mathlib.Decide.{decLt, decLe}
@@ -25,7 +25,7 @@ use Rattle.machine.specs.Table.{absoluteOutside, addressing, absoluteAddressing
 use Rattle.machine.proofs.Verdicts.{both, neither, line-clear, first-clear, first-none, first-assoc, bytes-none, bytes-stop}
 use Rattle.machine.proofs.Plans.{configured, operands-passed}
 use Rattle.machine.proofs.AbsoluteAddress.{absolute-inside}
-use Rattle.access.specs.Runs.{left, partAt, firstLines, linesOfOne, twoTests, linesOfTwo}
+use Rattle.access.specs.ByUnit.{left, partAt, firstLines, linesOfOne, twoTests, linesOfTwo}
 use Rattle.access.specs.Admitted.{Admitted}
 use Rattle.access.proofs.Runs.{Run, run-first, run-second, real-below, real-step, unit-same}
 
@@ -44,7 +44,7 @@ two-tests r test n k l before after = go (test 0) refl (test k) refl
         side i h (yes m) = before i m p
         side i h (no m) = after i (omega arith) h q
 
--- low-address protection does not begin after byte f
+-- where a real address is not low-protected, no greater one is
 low-later : (kind : AccessKind) (p : Processor) (x y : ℕ) → x ≤ y → lowProtected kind p x ≡ false → lowProtected kind p y ≡ false
 unfolding lowProtected
 low-later Fetch p x y h e = refl
@@ -104,10 +104,10 @@ linesByUnit s m keys p kind start count =
 module _ (s : Settings) (m keyLength : ℕ) (keys : List ℕ) (p : Processor) (kind : AccessKind) (start count : ℕ)
     (b : ℕ) (h : Admitted s m keyLength p kind start count b) where
   inside : (f i : ℕ) → Run s start f i → leb m (add24 start f) ≡ false → leb m (add24 start i) ≡ false
-  inside = inside-later s start m (configured s m keyLength p (h .lengths) (h .owned) .whole)
+  inside = inside-later s start m (configured s m keyLength p (h .lengths) (h .valid) .whole)
 
   absolute : (f i : ℕ) → Run s start f i → absoluteOutside m p (add24 start f) ≡ false → absoluteOutside m p (add24 start i) ≡ false
-  absolute f i r q = absolute-inside s m keyLength p (h .lengths) (h .owned) (add24 start i)
+  absolute f i r q = absolute-inside s m keyLength p (h .lengths) (h .valid) (add24 start i)
 
   operands : (0 < count) × (count ≤ 256) × (count ≤ b)
   operands = operands-passed kind start count b (h .operands)
@@ -142,21 +142,21 @@ module _ (s : Settings) (m : ℕ) (keys : List ℕ) (n : ℕ) (p : Processor) (k
   pub admitted : firstLines s m (length keys) n p kind start count b ≡ Clear → Admitted s m (length keys) p kind start count b
   admitted e =
       let (before, operands) = first-clear _ _ e in
-      let (lengths, owned) = first-clear _ _ before in
+      let (lengths, record-line) = first-clear _ _ before in
       record {
         lengths = not-false _ (line-clear _ _ lengths);
-        owned = both (ltb n 2) _ (not-false _ (line-clear _ _ owned)) .1;
+        valid = both (ltb n 2) _ (not-false _ (line-clear _ _ record-line)) .1;
         operands = line-clear _ _ operands;
       }
 
-  -- the table is its first three lines and the rest, of which nothing counts where one of the three applies
+  -- the table is its first three lines and the rest
   table-in-two : firstOf (firstLines s m (length keys) n p kind start count b)
       (firstOf (addressing m (Access kind start count)) (firstOf (absoluteAddressing m p (Access kind start count)) (protection s keys p (Access kind start count))))
       ≡ verdict s m keys n p (Access kind start count) b
   unfolding firstLine plan verdict
   table-in-two = simp (first-assoc, first-none, no-line)
 
-  pub table-by-unit : firstOf (firstLines s m (length keys) n p kind start count b) (linesByUnit s m keys p kind start count)
+  table-by-unit : firstOf (firstLines s m (length keys) n p kind start count b) (linesByUnit s m keys p kind start count)
       ≡ verdict s m keys n p (Access kind start count) b
   table-by-unit = first-same _ _ _ (λ e. lines-by-unit s m (length keys) keys p kind start count b (admitted e)) ∙ table-in-two
 
@@ -164,7 +164,7 @@ module _ (s : Settings) (m : ℕ) (keys : List ℕ) (n : ℕ) (p : Processor) (k
   pub table-of-admitted : Admitted s m (length keys) p kind start count b → ltb n 2 ≡ true
       → linesByUnit s m keys p kind start count ≡ verdict s m keys n p (Access kind start count) b
   unfolding line firstOf
-  table-of-admitted h e = rw (h .lengths, e, h .owned, h .operands) at table-by-unit
+  table-of-admitted h e = rw (h .lengths, e, h .valid, h .operands) at table-by-unit
 
   -- the verdict of the table on an access that one of them refuses, on one in one unit and on one in two
   pub refused-first : {r : Reason} {place : ℕ} → firstLines s m (length keys) n p kind start count b ≡ Stop r place

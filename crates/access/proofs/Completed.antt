@@ -24,7 +24,7 @@ use Rattle.machine.specs.Table.{plan}
 use Rattle.machine.specs.Step.{storageLeft, bufferLeft, keysRecorded, completed, performed}
 use Rattle.machine.proofs.Written.{written-after, written-once}
 use Rattle.machine.proofs.Plans.{clear-plan, Passed, access-passed, access-keyed}
-use Rattle.access.specs.Runs.{left}
+use Rattle.access.specs.ByUnit.{left}
 use Rattle.access.specs.Admitted.{Admitted, Performed}
 use Rattle.access.proofs.Checks.{linesByUnit, table-of-admitted}
 use Rattle.access.proofs.Moves.{one-run, two-runs}

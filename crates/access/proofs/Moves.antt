@@ -9,7 +9,7 @@ use lib.ListN.{length, set}
 use Rattle.machine.specs.Numbers.{written, add24}
 use Rattle.machine.specs.declared.Settings.{Settings}
 use Rattle.machine.proofs.Written.{length-written, written-same, written-after}
-use Rattle.access.specs.Runs.{left}
+use Rattle.access.specs.ByUnit.{left}
 use Rattle.access.proofs.Runs.{Run, run-first, run-second}
 
 module _ (xs ys : List ℕ) (place value : ℕ → ℕ) (n : ℕ) (so-far : xs ≡ written ys place value n) where

@@ -1,5 +1,5 @@
--- An access in one unit and one in two, from the verdict of their lines: what their runs ask, that their keys are there, and what is left.
--- Each is a case of an access by unit.
+-- An access in one unit and one in two, from the verdict of their lines: that what `store_run` and `fetch_run` require holds, that the keys of
+-- their units are there, and what is left. Each is a case of an access by unit.
 -- Assumes nothing.
 use Prim.Native.Nat.{ℕ, _+_, _-_, _<_, _≤_}
 use mathlib.Core.Path.{_≡_}
@@ -19,8 +19,8 @@ use Rattle.machine.specs.Prefixing.{byteAt}
 use Rattle.machine.specs.Protection.{recorded}
 use Rattle.machine.specs.Step.{storageLeft, bufferLeft}
 use Rattle.machine.proofs.Plans.{Passed}
-use Rattle.access.specs.Runs.{left, partAt, linesOfOne, linesOfTwo}
-use Rattle.access.specs.Admitted.{Admitted, Performed}
+use Rattle.access.specs.ByUnit.{left, partAt, linesOfOne, linesOfTwo}
+use Rattle.access.specs.Admitted.{Admitted, PerformedInOne, PerformedInTwo}
 use Rattle.access.proofs.Checks.{linesByUnit}
 use Rattle.access.proofs.Completed.{Fits, whole-fits, part-fits, rest-fits, store-one, store-two, fetch-one, fetch-two, one-recorded, two-recorded, passed, keyed, access-completed}
 
@@ -28,17 +28,17 @@ use Rattle.access.proofs.Completed.{Fits, whole-fits, part-fits, rest-f
 module _ (s : Settings) (m : ℕ) (keys : List ℕ) (p : Processor) (kind : AccessKind) (start count b : ℕ)
     (h : Admitted s m (length keys) p kind start count b) (l : count ≤ left s start)
     (clear : linesOfOne m p kind (partAt s keys p start 0) ≡ Clear) where
-  by-one : linesByUnit s m keys p kind start count ≡ Clear
-  by-one = rw (le-leb count (left s start) l) clear
+  one-clear : linesByUnit s m keys p kind start count ≡ Clear
+  one-clear = rw (le-leb count (left s start) l) clear
 
   one-passed : Passed m p start count b
-  one-passed = passed s m keys p kind start count b h by-one
+  one-passed = passed s m keys p kind start count b h one-clear
 
   pub one-fits : Fits p start 0 count m b
   one-fits = whole-fits s m p start count b one-passed l
 
   pub one-keyed : unitOf s (byteAt p start 0) < length keys
-  one-keyed = keyed s m keys p kind start count b h by-one 0 (one-passed .some)
+  one-keyed = keyed s m keys p kind start count b h one-clear 0 (one-passed .some)
 
 -- in two
 module _ (s : Settings) (m : ℕ) (keys : List ℕ) (p : Processor) (kind : AccessKind) (start count k b : ℕ)
@@ -47,17 +47,17 @@ module _ (s : Settings) (m : ℕ) (keys : List ℕ) (p : Processor) (kind : Acce
   more : left s start < count
   more = rw (l .0) at (l .1)
 
-  by-two : linesByUnit s m keys p kind start count ≡ Clear
-  by-two = rw (lt-leb count (left s start) more) (rw (l .0) at clear)
+  two-clear : linesByUnit s m keys p kind start count ≡ Clear
+  two-clear = rw (lt-leb count (left s start) more) (rw (l .0) at clear)
 
   two-passed : Passed m p start count b
-  two-passed = passed s m keys p kind start count b h by-two
+  two-passed = passed s m keys p kind start count b h two-clear
 
   pub two-fit : Fits p start 0 k m b × Fits p start k (count - k) m b
   two-fit = rw (l .0) (part-fits s m p start count b two-passed more, rest-fits s m p start count b two-passed more)
 
   pub two-keyed : (unitOf s (byteAt p start 0) < length keys) × (unitOf s (byteAt p start k) < length keys)
-  two-keyed = (keyed s m keys p kind start count b h by-two 0 (omega arith), keyed s m keys p kind start count b h by-two k (l .1))
+  two-keyed = (keyed s m keys p kind start count b h two-clear 0 (omega arith), keyed s m keys p kind start count b h two-clear k (l .1))
 
 -- What the code leaves is what the verdict says: bytes moved in runs from the absolute addresses of the parts, and the key of each part's unit.
 module _ (s : Settings) (storage keys : List ℕ) (p : Processor) (start count : ℕ) (buffer : List ℕ) where
@@ -85,7 +85,7 @@ module _ (s : Settings) (storage keys : List ℕ) (p : Processor) (start count :
   two kind k = linesOfTwo m p kind (partAt s keys p start 0) k (partAt s keys p start k)
 
   pub stored-in-one : Admitted s m (length keys) p Store start count b → count ≤ left s start → one Store ≡ Clear
-      → Performed (one Store) s p Store start count storage keys buffer (Completed 0) (stored storage 0 count) (marked Store keys 0) buffer
+      → PerformedInOne s p Store start count storage keys buffer (Completed 0) (stored storage 0 count) (marked Store keys 0) buffer
   unfolding bufferLeft
   stored-in-one h l clear =
       let known = one-passed s m keys p Store start count b h l clear in
@@ -93,7 +93,7 @@ module _ (s : Settings) (storage keys : List ℕ) (p : Processor) (start count :
       (access-completed s storage keys p Store start count buffer clear)
 
   pub fetched-in-one : Admitted s m (length keys) p Fetch start count b → count ≤ left s start → one Fetch ≡ Clear
-      → Performed (one Fetch) s p Fetch start count storage keys buffer (Completed 0) storage (marked Fetch keys 0) (fetched buffer 0 count)
+      → PerformedInOne s p Fetch start count storage keys buffer (Completed 0) storage (marked Fetch keys 0) (fetched buffer 0 count)
   unfolding storageLeft
   fetched-in-one h l clear =
       let known = one-passed s m keys p Fetch start count b h l clear in
@@ -101,7 +101,7 @@ module _ (s : Settings) (storage keys : List ℕ) (p : Processor) (start count :
       (access-completed s storage keys p Fetch start count buffer clear)
 
   pub stored-in-two : (k : ℕ) → Admitted s m (length keys) p Store start count b → (k ≡ left s start) × (k < count) → two Store k ≡ Clear
-      → Performed (two Store k) s p Store start count storage keys buffer (Completed 0) (stored (stored storage 0 k) k (count - k)) (marked Store (marked Store keys 0) k) buffer
+      → PerformedInTwo s p Store start count k storage keys buffer (Completed 0) (stored (stored storage 0 k) k (count - k)) (marked Store (marked Store keys 0) k) buffer
   unfolding bufferLeft
   stored-in-two k h l clear =
       let known = two-passed s m keys p Store start count k b h l clear in
@@ -114,7 +114,7 @@ module _ (s : Settings) (storage keys : List ℕ) (p : Processor) (start count :
       (access-completed s storage keys p Store start count buffer (rw (l .0) at clear))
 
   pub fetched-in-two : (k : ℕ) → Admitted s m (length keys) p Fetch start count b → (k ≡ left s start) × (k < count) → two Fetch k ≡ Clear
-      → Performed (two Fetch k) s p Fetch start count storage keys buffer (Completed 0) storage (marked Fetch (marked Fetch keys 0) k) (fetched (fetched buffer 0 k) k (count - k))
+      → PerformedInTwo s p Fetch start count k storage keys buffer (Completed 0) storage (marked Fetch (marked Fetch keys 0) k) (fetched (fetched buffer 0 k) k (count - k))
   unfolding storageLeft
   fetched-in-two k h l clear =
       let known = two-passed s m keys p Fetch start count k b h l clear in

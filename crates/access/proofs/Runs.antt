@@ -11,7 +11,7 @@ use Rattle.machine.specs.Numbers.{unitSize, unitOf, add24}
 use Rattle.machine.specs.Prefixing.{blockNumber, byteAt}
 use Rattle.machine.proofs.Prefixing.{prefixing-keeps-offset, prefixing-maps-blocks}
 use Rattle.machine.proofs.Units.{unit-holds-access, unit-from, block-of-unit, bytes-in-unit}
-use Rattle.access.specs.Runs.{left}
+use Rattle.access.specs.ByUnit.{left}
 
 abbrev pub Run : Settings → ℕ → ℕ → ℕ → Type 0
 Run s start f i = (f ≤ i) × (unitOf s (start + i) ≡ unitOf s (start + f))

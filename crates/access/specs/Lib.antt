@@ -1,3 +1,3 @@
 -- What the helpers of an access mean.
-pub mod Runs
+pub mod ByUnit
 pub mod Admitted

@@ -1,5 +1,5 @@
-// The table of answers for an access. Lines 64, 65 and 66 test the request as a whole. Lines 5, 67 and 4 are tested at the first byte of each
-// part, of one or of two.
+// The table of answers for an access. Lines 64, 65 and 66 test the request as a whole; lines 1, 2, 19 and 6 are for instructions only; lines
+// 5, 67 and 4 are tested at the first byte of each of its one or two parts.
 use crate::part::Part;
 use machine::AccessKind;
 use machine::Processor;
@@ -13,7 +13,7 @@ use machine::numbers::valid;
 use storage_key::forbidden;
 ghost use mathlib.Core.Path.{_≡_};
 ghost use Rattle.machine.specs.Table.{operandInvalid};
-ghost use Rattle.access.specs.Runs.{outside as isOutside, absoluteOutside, twoTests, firstLines, linesOfOne, linesOfTwo};
+ghost use Rattle.access.specs.ByUnit.{partOutside, partAbsoluteOutside, twoTests, firstLines, linesOfOne, linesOfTwo};
 
 // Line 66.
 fn operand_invalid(kind: AccessKind, start: u32, count: u32, buffer_length: usize) -> bool
@@ -43,19 +43,19 @@ pub(crate) fn first_lines(
 
 // Line 5 at the first byte of a part.
 fn outside(storage_length: usize, here: Part) -> bool
-    ensures { λ r. ⌜ r ≡ isOutside «storage_length» here ⌝ }
+    ensures { λ r. ⌜ r ≡ partOutside «storage_length» here ⌝ }
 {
     storage_length <= here.real as usize
 }
 
 // Line 67 at the first byte of a part.
 fn absolute_outside(storage_length: usize, here: Part) -> bool
-    ensures { λ r. ⌜ r ≡ absoluteOutside «storage_length» here ⌝ }
+    ensures { λ r. ⌜ r ≡ partAbsoluteOutside «storage_length» here ⌝ }
 {
-    ((here.real as usize) < storage_length) & (storage_length <= here.at)
+    ((here.real as usize) < storage_length) & (storage_length <= here.absolute as usize)
 }
 
-// Lines 5, 67 and 4 of an access in one unit.
+// Lines 5, 67 and 4 of an access in one unit. It returns early for speed (docs/BENCHMARK.md).
 pub(crate) fn lines_of_one(
     storage_length: usize,
     p: Processor,
@@ -109,23 +109,23 @@ pub(crate) fn lines_of_two(
 ) -> Verdict
     ensures { λ r. ⌜ r ≡ linesOfTwo «storage_length» p kind here k there ⌝ }
 {
-    let outside = two_tests(
+    let addressing = two_tests(
         Reason::Addressing,
         outside(storage_length, here),
         k,
         outside(storage_length, there),
     );
-    let beyond = two_tests(
+    let absolute_address = two_tests(
         Reason::AbsoluteAddress,
         absolute_outside(storage_length, here),
         k,
         absolute_outside(storage_length, there),
     );
-    let protected = two_tests(
+    let protection = two_tests(
         Reason::Protection,
         forbidden(kind, p, here.real, here.key),
         k,
         forbidden(kind, p, there.real, there.key),
     );
-    first_of(outside, first_of(beyond, protected))
+    first_of(addressing, first_of(absolute_address, protection))
 }

@@ -13,8 +13,8 @@ use storage_key::recorded;
 ghost use Prim.Native.Nat.{_≤_, _<_};
 ghost use mathlib.Core.Path.{_≡_};
 ghost use lib.ListN.{length};
-ghost use Rattle.access.specs.Runs.{left as leftOf, partAt, linesOfOne, linesOfTwo};
-ghost use Rattle.access.specs.Admitted.{Admitted, Performed};
+ghost use Rattle.access.specs.ByUnit.{left as leftOf};
+ghost use Rattle.access.specs.Admitted.{Admitted, PerformedInOne, PerformedInTwo};
 
 // A fetch in one unit.
 pub(crate) fn fetch_in_one(
@@ -27,14 +27,21 @@ pub(crate) fn fetch_in_one(
     buffer: &mut [u8],
 ) -> Answer
     requires { ⌜ Admitted settings (length (now storage)) (length (now keys)) p AccessKind.Fetch start count (length (now buffer)) × (count ≤ leftOf settings start) ⌝ }
-    ensures { λ r. ⌜ Performed (linesOfOne (length (now (storage .entry))) p AccessKind.Fetch (partAt settings (now (keys .entry)) p start 0)) settings p AccessKind.Fetch start count (now (storage .entry)) (now (keys .entry)) (now (buffer .entry)) r (now (storage .entry)) (now (keys .exit)) (now (buffer .exit)) ⌝ }
+    ensures { λ r. ⌜ PerformedInOne settings p AccessKind.Fetch start count (now (storage .entry)) (now (keys .entry)) (now (buffer .entry)) r (now (storage .entry)) (now (keys .exit)) (now (buffer .exit)) ⌝ }
 {
     let kind = AccessKind::Fetch;
     let here = part_at(settings, &keys[..], p, start, 0);
     let found = lines_of_one(storage.len(), p, kind, here);
     match found {
         Verdict::Clear => {
-            fetch_run(storage, here.at, here.real, buffer, 0, count as usize);
+            fetch_run(
+                storage,
+                here.absolute as usize,
+                here.real,
+                buffer,
+                0,
+                count as usize,
+            );
             let unit = here.unit;
             keys[unit] = recorded(kind, here.key);
             Answer::Completed { word: 0 }
@@ -55,7 +62,7 @@ pub(crate) fn fetch_in_two(
     buffer: &mut [u8],
 ) -> Answer
     requires { ⌜ Admitted settings (length (now storage)) (length (now keys)) p AccessKind.Fetch start count (length (now buffer)) × ((k ≡ leftOf settings start) × (k < count)) ⌝ }
-    ensures { λ r. ⌜ Performed (linesOfTwo (length (now (storage .entry))) p AccessKind.Fetch (partAt settings (now (keys .entry)) p start 0) k (partAt settings (now (keys .entry)) p start k)) settings p AccessKind.Fetch start count (now (storage .entry)) (now (keys .entry)) (now (buffer .entry)) r (now (storage .entry)) (now (keys .exit)) (now (buffer .exit)) ⌝ }
+    ensures { λ r. ⌜ PerformedInTwo settings p AccessKind.Fetch start count k (now (storage .entry)) (now (keys .entry)) (now (buffer .entry)) r (now (storage .entry)) (now (keys .exit)) (now (buffer .exit)) ⌝ }
 {
     let kind = AccessKind::Fetch;
     let here = part_at(settings, &keys[..], p, start, 0);
@@ -64,8 +71,22 @@ pub(crate) fn fetch_in_two(
     match found {
         Verdict::Clear => {
             let rest = (count - k) as usize;
-            fetch_run(storage, here.at, here.real, buffer, 0, k as usize);
-            fetch_run(storage, there.at, there.real, buffer, k as usize, rest);
+            fetch_run(
+                storage,
+                here.absolute as usize,
+                here.real,
+                buffer,
+                0,
+                k as usize,
+            );
+            fetch_run(
+                storage,
+                there.absolute as usize,
+                there.real,
+                buffer,
+                k as usize,
+                rest,
+            );
             let first = here.unit;
             let last = there.unit;
             keys[first] = recorded(kind, here.key);

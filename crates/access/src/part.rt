@@ -6,14 +6,14 @@ use prefixing::absolute;
 use prefixing::add24;
 ghost use mathlib.Core.Path.{_≡_};
 ghost use lib.ListN.{getD};
-ghost use Rattle.access.specs.Runs.{left as leftOf, partAt};
+ghost use Rattle.access.specs.ByUnit.{left as leftOf, partAt};
 
 // The part of an access from one of its bytes on, in the unit of that byte.
 pub(crate) struct Part {
     // The real address of its first byte.
     pub(crate) real: u32,
     // The absolute address of its first byte.
-    pub(crate) at: usize,
+    pub(crate) absolute: u32,
     // The unit.
     pub(crate) unit: usize,
     // The unit's key.
@@ -21,7 +21,7 @@ pub(crate) struct Part {
 }
 
 // The key of a unit, or 0 where the array has none.
-fn key_of(keys: &[u8], unit: usize) -> u8
+fn key_of_unit(keys: &[u8], unit: usize) -> u8
     ensures { λ r. ⌜ r ≡ getD (now (keys .entry)) unit 0 ⌝ }
 {
     if unit < keys.len() { keys[unit] } else { 0 }
@@ -32,12 +32,12 @@ pub(crate) fn part_at(settings: Settings, keys: &[u8], p: Processor, start: u32,
     ensures { λ r. ⌜ r ≡ partAt settings (now (keys .entry)) p start i ⌝ }
 {
     let real = add24(start, i);
-    let at = absolute(p.prefix, real) as usize;
-    let unit = unit_of(settings, at);
-    let key = key_of(keys, unit);
+    let absolute = absolute(p.prefix, real);
+    let unit = unit_of(settings, absolute as usize);
+    let key = key_of_unit(keys, unit);
     Part {
         real,
-        at,
+        absolute,
         unit,
         key,
     }

@@ -6,7 +6,8 @@ ghost use lib.ListN.{getD, length};
 ghost use Rattle.machine.specs.Numbers.{written};
 
 // A run of a store: n bytes from `from` on go to the absolute address `base` and those after it. The run has the real addresses from
-// `real` on, each made by the 24-bit addition; that it does not wrap is known, and is tested so that the compiler knows it too.
+// `real` on, each made by the 24-bit addition; that it does not wrap is known, and is tested so that the compiled loop can move many bytes a
+// turn.
 pub(crate) fn store_run(
     storage: &mut [u8],
     base: usize,
@@ -23,8 +24,8 @@ pub(crate) fn store_run(
     }
     let mut j = 0;
     while j < n {
-        let at = add24(real, j as u32) - real;
-        storage[base + at as usize] = bytes[from + j];
+        let offset = add24(real, j as u32) - real;
+        storage[base + offset as usize] = bytes[from + j];
         j += 1;
     }
 }
@@ -46,8 +47,8 @@ pub(crate) fn fetch_run(
     }
     let mut j = 0;
     while j < n {
-        let at = add24(real, j as u32) - real;
-        buffer[from + j] = storage[base + at as usize];
+        let offset = add24(real, j as u32) - real;
+        buffer[from + j] = storage[base + offset as usize];
         j += 1;
     }
 }

@@ -1,4 +1,5 @@
--- A call by the outcome of the storage unit's request: completed, refused, or of no processor. Assumes nothing.
+-- A call by the outcome of the storage unit's request: completed, refused, or of no processor. `serve` promises the step for every list of
+-- records in which the processor has its own; taken for the pair in the bytes, that is the call. Assumes nothing.
 use Prim.Native.Nat.{ℕ, zero, suc, _+_, _*_, _<_, _≤_}
 use mathlib.Core.Path.{_≡_, refl, sym, ap, subst, _∙_}
 use mathlib.Core.Bool.{Bool, true, false, cond}
@@ -15,12 +16,12 @@ use Rattle.machine.specs.declared.Reason.the-variants.{Configuration, Record}
 use Rattle.machine.specs.declared.Answer.{Answer}
 use Rattle.machine.specs.declared.Answer.the-variants.{Completed, Refused}
 use Rattle.machine.specs.Numbers.{lengthsValid, recordValid, own, written}
-use Rattle.machine.specs.Answers.{numberOf, values}
+use Rattle.machine.specs.Answers.{values}
 use Rattle.machine.specs.Step.{outcome, step}
 use Rattle.machine.proofs.Plans.{Cleared, plan-clear}
 use Rattle.machine.proofs.Conditions.{condition-1, answer-in-table}
-use Rattle.machine.proofs.Requests.{refusal-number, completed-plan, other-number-refused, Kept, own-record-kept}
-use Rattle.host.specs.Boundary.{recordAt, recordBytes, Holds, pairOf, packed, left, recordsLeft, leftBy, numberIn, CallCondition1}
+use Rattle.machine.proofs.Requests.{refusal-number, completed-plan, withoutProcessor, other-number-refused, Kept, own-record-kept}
+use Rattle.host.specs.Boundary.{recordAt, recordBytes, Holds, pairOf, packed, Packs, left, recordsLeft, leftBy, CallCondition1}
 use Rattle.host.proofs.Records.{valid-record-is-written}
 
 -- the record of a processor in the bytes
@@ -28,10 +29,6 @@ pub own-in-bytes : (bytes : List ℕ) (n : ℕ) → n < 2 → recordAt bytes (n 
 own-in-bytes bytes zero h = refl
 own-in-bytes bytes (suc zero) h = refl
 own-in-bytes bytes (suc (suc n)) h = absurd (omega arith)
-
--- a result of `pack`
-abbrev pub Packs : ℕ → Answer → Type 0
-Packs result answer = (result ≡ packed (values answer)) × (numberIn result ≡ numberOf answer)
 
 -- condition 1 of a call that changes nothing, whatever its answer
 pub nothing-changes : (answer : Answer) {result : ℕ} {storage keys bytes buffer storage′ keys′ bytes′ buffer′ : List ℕ} → Packs result answer
@@ -90,7 +87,7 @@ module _ (bytes : List ℕ) (s : Settings) (storage keys : List ℕ) (n : ℕ) {
 
 -- The answer to a request of no processor. Nothing changes.
 pub no-processor-call : (bytes : List ℕ) (s : Settings) (storage keys : List ℕ) (n : ℕ) (r : Request) (buffer : List ℕ) → 2 ≤ n
-    → left (packed (values (cond (lengthsValid s (length storage) (length keys)) (Refused Record 0) (Refused Configuration 0)))) storage keys bytes buffer
+    → left (packed (values (withoutProcessor s (length storage) (length keys)))) storage keys bytes buffer
     ≡ leftBy bytes n (step s storage keys (pairOf bytes) n r buffer)
 unfolding recordsLeft
 no-processor-call bytes s storage keys n r buffer h =

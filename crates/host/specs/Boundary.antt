@@ -13,10 +13,11 @@ use Rattle.machine.specs.declared.Request.the-variants.{Access, Key, Prefix}
 use Rattle.machine.specs.declared.AccessKind.the-variants.{Fetch, Store}
 use Rattle.machine.specs.declared.KeyInstruction.the-variants.{Isk, Ssk, Rrb, Iske, Sske, Rrbe}
 use Rattle.machine.specs.declared.PrefixInstruction.the-variants.{SetPrefix, StorePrefix}
+use Rattle.machine.specs.declared.Answer.{Answer}
 use Rattle.machine.specs.declared.Answer.the-variants.{Refused}
 use Rattle.machine.specs.declared.Reason.the-variants.{Configuration}
 use Rattle.machine.specs.Numbers.{own, written}
-use Rattle.machine.specs.Answers.{Values, values}
+use Rattle.machine.specs.Answers.{numberOf, Values, values}
 use Rattle.machine.specs.Step.{Outcome, step}
 use Rattle.machine.specs.Conditions.{numbers, isIn}
 
@@ -44,6 +45,7 @@ recordAt bytes at =
       code = getD bytes (at + 2) 0;
     }
 
+-- a bit as a number, v where it is on
 abbrev pub value : Bool → ℕ → ℕ
 value b v = cond b v 0
 
@@ -95,6 +97,20 @@ requestOf operation a b = getD (requests a b) operation (Access Fetch 0 0)
 abbrev pub packed : Values → ℕ
 packed v = v .number * 281474976710656 + v .place % 65536 * 4294967296 + v .word
 
+-- number, place and word of an answer in one number
+abbrev pub numberIn : ℕ → ℕ
+numberIn answer = answer / 281474976710656
+
+abbrev pub placeIn : ℕ → ℕ
+placeIn answer = answer / 4294967296 % 65536
+
+abbrev pub wordIn : ℕ → ℕ
+wordIn answer = answer % 4294967296
+
+-- the answer in one number, of which its number can be told
+abbrev pub Packs : ℕ → Answer → Type 0
+Packs result answer = (result ≡ packed (values answer)) × (numberIn result ≡ numberOf answer)
+
 -- what a call leaves: its answer, storage, key array, the bytes of the records, its buffer
 pub record Left : Type 0 where
   pub answer : ℕ
@@ -106,7 +122,8 @@ pub record Left : Type 0 where
 abbrev pub left : ℕ → List ℕ → List ℕ → List ℕ → List ℕ → Left
 left answer storage keys records buffer = record { answer = answer; storage = storage; keys = keys; records = records; buffer = buffer }
 
--- a completed request writes the eight bytes of its own processor's record; no other byte of the records changes
+-- after a completed request the eight bytes of its own processor's record are those of the record that the step leaves; no other byte of the
+-- records changes
 unfoldable pub recordsLeft : ℕ → List ℕ → ℕ → List Processor → List ℕ
 recordsLeft number records n ps =
     cond (eqb number 0) (written records (λ i. n * 8 + i) (λ i. getD (recordBytes (own ps n)) i 0) 8) records
@@ -120,10 +137,6 @@ called settings storage keys records n operation a b buffer =
     cond (ltb settings 4)
     (leftBy records (processorOf records n) (step (settingsOf settings) storage keys (pairOf records) (processorOf records n) (requestOf operation a b) buffer))
     (left (packed (values (Refused Configuration 0))) storage keys records buffer)
-
--- the number in an answer
-abbrev pub numberIn : ℕ → ℕ
-numberIn answer = answer / 281474976710656
 
 -- condition 1 of a call: it ends with one answer of the table, and one that is not completed changes nothing lent
 pub record CallCondition1 (answer : ℕ) (storage keys records buffer storage′ keys′ records′ buffer′ : List ℕ) : Type 0 where

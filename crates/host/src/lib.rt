@@ -14,15 +14,14 @@ use machine::Settings;
 use machine::numbers::lengths_valid;
 ghost use mathlib.Core.Path.{_≡_};
 ghost use Prim.Native.Nat.{_<_};
-ghost use mathlib.Core.Bool.{cond};
 ghost use lib.ListN.{length};
-ghost use Rattle.machine.specs.Numbers.{lengthsValid};
 ghost use Rattle.machine.specs.Step.{step};
+ghost use Rattle.machine.proofs.Requests.{withoutProcessor};
 ghost use Rattle.host.specs.Boundary.{pairOf, requestOf, left, leftBy, called, CallCondition1};
 
 // The answer to a request of no processor: its number is not 0 or 1, or there are not sixteen bytes of records. No record is looked at.
 fn no_processor(settings: Settings, storage_length: usize, key_length: usize) -> Answer
-    ensures { λ r. ⌜ r ≡ cond (lengthsValid settings «storage_length» «key_length») (Answer.Refused Reason.Record 0) (Answer.Refused Reason.Configuration 0) ⌝ }
+    ensures { λ r. ⌜ r ≡ withoutProcessor settings «storage_length» «key_length» ⌝ }
 {
     if lengths_valid(settings, storage_length, key_length) {
         Answer::Refused {

@@ -6,9 +6,10 @@ ghost use mathlib.Core.Path.{_≡_};
 ghost use mathlib.Core.Bool.{cond};
 ghost use lib.ListN.{length, getD, set};
 ghost use Rattle.machine.specs.Numbers.{written};
-ghost use Rattle.machine.specs.Step.{withCode, withPrefix};
+ghost use Rattle.machine.proofs.Requests.{Kept};
 ghost use Rattle.host.specs.Boundary.{settingsOf, recordAt, prefixBytes, recordBytes, Holds};
 
+// The settings in a number: 1 the 4K facility, 2 the extensions.
 pub(crate) fn settings_of(word: u32) -> Settings
     ensures { λ r. ⌜ r ≡ settingsOf word ⌝ }
 {
@@ -75,7 +76,7 @@ fn put_prefix(bytes: &mut [u8], at: usize, before: u32, after: u32)
 
 // Writes the record q over the bytes of the record p, from which it differs in condition code and prefix only.
 pub(crate) fn put_record(bytes: &mut [u8], at: usize, p: Processor, q: Processor)
-    requires { ⌜ (length (now bytes) ≡ 16) × (at ≤ 8) × Holds (now bytes) at p × (q ≡ withPrefix (withCode p (q .code)) (q .prefix)) ⌝ }
+    requires { ⌜ (length (now bytes) ≡ 16) × (at ≤ 8) × Holds (now bytes) at p × Kept p q ⌝ }
     ensures { λ _. ⌜ now (bytes .exit) ≡ written (now (bytes .entry)) (λ i. at + i) (λ i. getD (recordBytes q) i 0) 8 ⌝ }
 {
     put_code(bytes, at, p.code, q.code);

@@ -6,24 +6,21 @@ use machine::PrefixInstruction;
 use machine::Request;
 use machine::answers::number_of;
 ghost use mathlib.Core.Path.{_≡_};
-ghost use Rattle.machine.specs.Answers.{numberOf, values};
-ghost use Rattle.host.specs.Boundary.{requestOf, packed, numberIn};
+ghost use Rattle.host.specs.Boundary.{requestOf, Packs};
+
+fn access_of(kind: AccessKind, start: u32, count: u32) -> Request
+    ensures { λ r. ⌜ r ≡ Request.Access kind start count ⌝ }
+{
+    Request::Access { kind, start, count }
+}
 
 // The request with this operation number and operands.
 pub(crate) fn request_of(operation: u32, first: u32, second: u32) -> Request
     ensures { λ r. ⌜ r ≡ requestOf operation first second ⌝ }
 {
     match operation {
-        0 => Request::Access {
-            kind: AccessKind::Fetch,
-            start: first,
-            count: second,
-        },
-        1 => Request::Access {
-            kind: AccessKind::Store,
-            start: first,
-            count: second,
-        },
+        0 => access_of(AccessKind::Fetch, first, second),
+        1 => access_of(AccessKind::Store, first, second),
         2 => Request::Key(KeyInstruction::Isk {
             r1: first,
             r2: second,
@@ -44,21 +41,17 @@ pub(crate) fn request_of(operation: u32, first: u32, second: u32) -> Request
         7 => Request::Key(KeyInstruction::Rrbe { r2: second }),
         8 => Request::Prefix(PrefixInstruction::SetPrefix { word: first }),
         9 => Request::Prefix(PrefixInstruction::StorePrefix),
-        _ => Request::Access {
-            kind: AccessKind::Fetch,
-            start: 0,
-            count: 0,
-        },
+        _ => access_of(AccessKind::Fetch, 0, 0),
     }
 }
 
-// The answer in one number, from which its number can be read.
+// The answer packed in one number, with the answer's own number as its highest sixteen bits.
 pub(crate) fn pack(answer: Answer) -> u64
-    ensures { λ r. ⌜ (r ≡ packed (values answer)) × (numberIn r ≡ numberOf answer) ⌝ }
+    ensures { λ r. ⌜ Packs r answer ⌝ }
 {
     match answer {
         Answer::Completed { word } => word as u64,
-        Answer::Refused { reason, place } => number_of(reason) * 281474976710656
+        Answer::Refused { reason, place } => number_of(reason) as u64 * 281474976710656
             + place as u64 % 65536 * 4294967296,
     }
 }

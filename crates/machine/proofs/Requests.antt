@@ -1,6 +1,6 @@
--- Laws of every request: the answer is the verdict of the table, with any number but 0 nothing changes, lengths stay, a request reads and
--- changes no record but its own processor's, and of that condition code and prefix only. The proofs go by the verdict and, where it is
--- clear, by the kind of request. Assumes nothing.
+-- Laws of every request: the answer is the verdict of the table, with any number but 0 nothing changes, lengths stay, a request reads no
+-- record but its own processor's, and of that one changes condition code and prefix only. The proofs go by the verdict and, where it is clear,
+-- by the kind of request. Assumes nothing.
 use Prim.Native.Nat.{ℕ, _≤_, _<_}
 use mathlib.Core.Path.{_≡_, refl, sym, ap, subst, _∙_}
 use mathlib.Core.Bool.{Bool, true, false, cond, not}
@@ -22,6 +22,7 @@ use Rattle.machine.specs.declared.Request.the-variants.{Access, Key, Pre
 use Rattle.machine.specs.declared.PrefixInstruction.the-variants.{SetPrefix, StorePrefix}
 use Rattle.machine.specs.declared.Reason.{Reason}
 use Rattle.machine.specs.declared.Reason.the-variants.{Configuration, Record, Operand, Operation, Privileged, SpecialOperation, Specification, Addressing, AbsoluteAddress, Protection}
+use Rattle.machine.specs.declared.Answer.{Answer}
 use Rattle.machine.specs.declared.Answer.the-variants.{Refused}
 use Rattle.machine.specs.declared.Verdict.{Verdict}
 use Rattle.machine.specs.declared.Verdict.the-variants.{Clear, Stop}
@@ -104,6 +105,10 @@ completed-lengths s storage keys ps n p buffer (Prefix i) = (refl, refl, length-
 abbrev pub Alike : ℕ → Outcome → Outcome → Type 0
 Alike n a b =
     (a .answer ≡ b .answer) × (a .storage ≡ b .storage) × (a .keys ≡ b .keys) × (a .buffer ≡ b .buffer) × (own (a .processors) n ≡ own (b .processors) n)
+
+-- the answer to a request of no processor
+abbrev pub withoutProcessor : Settings → ℕ → ℕ → Answer
+withoutProcessor s storageLength keyLength = cond (lengthsValid s storageLength keyLength) (Refused Record 0) (Refused Configuration 0)
 
 -- q is p but for condition code and prefix: the PSW key, problem state and the control bits are the same
 abbrev pub Kept : Processor → Processor → Type 0
@@ -224,7 +229,7 @@ module _ (s : Settings) (storage keys : List ℕ) (ps : List Processor) (n : ℕ
       go Clear = subst (λ p. Alike n (completed s storage keys ps n p r buffer) (completed s storage keys qs n (own qs n) r buffer)) (sym e) (done (own qs n) r)
 
   -- a number that is not 0 or 1 is refused, no record is looked at and nothing changes
-  pub other-number-refused : 2 ≤ n → after ≡ unchanged (values (cond (lengthsValid s (length storage) (length keys)) (Refused Record 0) (Refused Configuration 0)))
+  pub other-number-refused : 2 ≤ n → after ≡ unchanged (values (withoutProcessor s (length storage) (length keys)))
   unfolding step performed verdict plan line firstLine firstOf
   other-number-refused h = rw (le-ltb n 2 h) (go (lengthsValid s (length storage) (length keys)))
     where

@@ -5,7 +5,7 @@ ghost use mathlib.Core.Path.{_≡_};
 ghost use Rattle.machine.specs.Answers.{numberOf, placeOf, wordOf};
 
 pub(crate) struct Values {
-    pub(crate) number: u64,
+    pub(crate) number: u32,
     pub(crate) place: u32,
     pub(crate) word: u32,
 }

@@ -1,6 +1,6 @@
 -- `two_tests` gives `twoTests`: by the two tests, in their order. Assumes nothing.
 use Rattle.machine.specs.Answers.{firstOf}
-use Rattle.access.specs.Runs.{twoTests}
+use Rattle.access.specs.ByUnit.{twoTests}
 use Rattle.access.proofs.check.two_tests.Statement.{statement}
 use Rattle.access.proofs.check.two_tests.Tie as tie
 

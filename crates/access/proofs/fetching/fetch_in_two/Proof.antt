@@ -25,23 +25,29 @@ sub-rest c = search needs
 cast-rest : tie.Need-cast-rest
 cast-rest c = search needs
 
+cast-fetch-run : tie.Need-cast-fetch-run
+cast-fetch-run c = search needs
+
 fetch-run-requires : tie.Need-fetch-run-requires
-fetch-run-requires c κs = rw (c .before .before .before .before .before .before .part-at .ensures) (two-fit _ _ (c .before .before .before .before .before .before .before .before .before .before .before .args .keys .now) _ _ _ _ _ _ (c .before .before .before .before .before .before .before .before .before .before .before .pre .0) (c .before .before .before .before .before .before .before .before .before .before .before .pre .1) (rw (c .before .before .before .before .before .before .part-at .ensures, c .before .before .before .before .part-at2 .ensures) at (sym (c .before .before .before .lines-of-two .ensures) ∙ c .before .enum-told .given .1)) .0)
+fetch-run-requires c κs = rw (c .before .before .before .before .before .before .before .part-at .ensures) (two-fit _ _ (c .before .before .before .before .before .before .before .before .before .before .before .before .args .keys .now) _ _ _ _ _ _ (c .before .before .before .before .before .before .before .before .before .before .before .before .pre .0) (c .before .before .before .before .before .before .before .before .before .before .before .before .pre .1) (rw (c .before .before .before .before .before .before .before .part-at .ensures, c .before .before .before .before .before .part-at2 .ensures) at (sym (c .before .before .before .before .lines-of-two .ensures) ∙ c .before .before .enum-told .given .1)) .0)
+
+cast-fetch-run-2 : tie.Need-cast-fetch-run-2
+cast-fetch-run-2 c = search needs
 
 fetch-run-requires-2 : tie.Need-fetch-run-requires-2
-fetch-run-requires-2 c κs = rw (c .before .before .before .fetch-run .kept .1 .1 .1 .0, c .before .before .before .before .before .before .before .before .part-at2 .ensures) (two-fit _ _ (c .before .before .before .before .before .before .before .before .before .before .before .before .before .before .before .args .keys .now) _ _ _ _ _ _ (c .before .before .before .before .before .before .before .before .before .before .before .before .before .before .before .pre .0) (c .before .before .before .before .before .before .before .before .before .before .before .before .before .before .before .pre .1) (rw (c .before .before .before .before .before .before .before .before .before .before .part-at .ensures, c .before .before .before .before .before .before .before .before .part-at2 .ensures) at (sym (c .before .before .before .before .before .before .before .lines-of-two .ensures) ∙ c .before .before .before .before .before .enum-told .given .1)) .1)
+fetch-run-requires-2 c κs = rw (c .before .before .before .before .fetch-run .kept .1 .1 .1 .0, c .before .before .before .before .before .before .before .before .before .before .part-at2 .ensures) (two-fit _ _ (c .before .before .before .before .before .before .before .before .before .before .before .before .before .before .before .before .before .args .keys .now) _ _ _ _ _ _ (c .before .before .before .before .before .before .before .before .before .before .before .before .before .before .before .before .before .pre .0) (c .before .before .before .before .before .before .before .before .before .before .before .before .before .before .before .before .before .pre .1) (rw (c .before .before .before .before .before .before .before .before .before .before .before .before .part-at .ensures, c .before .before .before .before .before .before .before .before .before .before .part-at2 .ensures) at (sym (c .before .before .before .before .before .before .before .before .before .lines-of-two .ensures) ∙ c .before .before .before .before .before .before .before .enum-told .given .1)) .1)
 
 recorded-requires : tie.Need-recorded-requires
 recorded-requires c κs = search needs
 
 slice-write-keys : tie.Need-slice-write-keys
-slice-write-keys c = rw (c .before .before .before .before .before .before .before .before .before .before .before .before .before .before .part-at .ensures) (two-keyed _ _ (c .before .before .before .before .before .before .before .before .before .before .before .before .before .before .before .before .before .before .before .args .keys .now) _ _ _ _ _ _ (c .before .before .before .before .before .before .before .before .before .before .before .before .before .before .before .before .before .before .before .pre .0) (c .before .before .before .before .before .before .before .before .before .before .before .before .before .before .before .before .before .before .before .pre .1) (rw (c .before .before .before .before .before .before .before .before .before .before .before .before .before .before .part-at .ensures, c .before .before .before .before .before .before .before .before .before .before .before .before .part-at2 .ensures) at (sym (c .before .before .before .before .before .before .before .before .before .before .before .lines-of-two .ensures) ∙ c .before .before .before .before .before .before .before .before .before .enum-told .given .1)) .0)
+slice-write-keys c = rw (c .before .before .before .before .before .before .before .before .before .before .before .before .before .before .before .before .part-at .ensures) (two-keyed _ _ (c .before .before .before .before .before .before .before .before .before .before .before .before .before .before .before .before .before .before .before .before .before .args .keys .now) _ _ _ _ _ _ (c .before .before .before .before .before .before .before .before .before .before .before .before .before .before .before .before .before .before .before .before .before .pre .0) (c .before .before .before .before .before .before .before .before .before .before .before .before .before .before .before .before .before .before .before .before .before .pre .1) (rw (c .before .before .before .before .before .before .before .before .before .before .before .before .before .before .before .before .part-at .ensures, c .before .before .before .before .before .before .before .before .before .before .before .before .before .before .part-at2 .ensures) at (sym (c .before .before .before .before .before .before .before .before .before .before .before .before .before .lines-of-two .ensures) ∙ c .before .before .before .before .before .before .before .before .before .before .before .enum-told .given .1)) .0)
 
 recorded-requires-2 : tie.Need-recorded-requires-2
 recorded-requires-2 c κs = search needs
 
 slice-write-keys-2 : tie.Need-slice-write-keys-2
-slice-write-keys-2 c = rw (c .before .before .before .before .before .before .before .before .before .before .before .before .before .part-at2 .ensures) (simp length-set (two-keyed _ _ (c .before .before .before .before .before .before .before .before .before .before .before .before .before .before .before .before .before .before .before .before .args .keys .now) _ _ _ _ _ _ (c .before .before .before .before .before .before .before .before .before .before .before .before .before .before .before .before .before .before .before .before .pre .0) (c .before .before .before .before .before .before .before .before .before .before .before .before .before .before .before .before .before .before .before .before .pre .1) (rw (c .before .before .before .before .before .before .before .before .before .before .before .before .before .before .before .part-at .ensures, c .before .before .before .before .before .before .before .before .before .before .before .before .before .part-at2 .ensures) at (sym (c .before .before .before .before .before .before .before .before .before .before .before .before .lines-of-two .ensures) ∙ c .before .before .before .before .before .before .before .before .before .before .enum-told .given .1)) .1))
+slice-write-keys-2 c = rw (c .before .before .before .before .before .before .before .before .before .before .before .before .before .before .before .part-at2 .ensures) (simp length-set (two-keyed _ _ (c .before .before .before .before .before .before .before .before .before .before .before .before .before .before .before .before .before .before .before .before .before .before .args .keys .now) _ _ _ _ _ _ (c .before .before .before .before .before .before .before .before .before .before .before .before .before .before .before .before .before .before .before .before .before .before .pre .0) (c .before .before .before .before .before .before .before .before .before .before .before .before .before .before .before .before .before .before .before .before .before .before .pre .1) (rw (c .before .before .before .before .before .before .before .before .before .before .before .before .before .before .before .before .before .part-at .ensures, c .before .before .before .before .before .before .before .before .before .before .before .before .before .before .before .part-at2 .ensures) at (sym (c .before .before .before .before .before .before .before .before .before .before .before .before .before .before .lines-of-two .ensures) ∙ c .before .before .before .before .before .before .before .before .before .before .before .before .enum-told .given .1)) .1))
 
 enum-known-found : tie.Need-enum-known-found
 enum-known-found c = search needs
@@ -53,7 +59,7 @@ same-length-2 : tie.Need-same-length-2
 same-length-2 c = search needs
 
 returns : tie.Need-returns
-returns c = rw (c .recorded2 .ensures, c .before .recorded .ensures, c .before .before .before .before .fetch-run2 .ensures, c .before .before .before .before .before .before .before .before .fetch-run .ensures, c .before .before .before .before .before .before .before .before .before .before .before .before .before .before .before .part-at .ensures, c .before .before .before .before .before .before .before .before .before .before .before .before .before .part-at2 .ensures) (fetched-in-two _ _ (c .before .before .before .before .before .before .before .before .before .before .before .before .before .before .before .before .before .before .before .before .args .keys .now) _ _ _ _ _ (c .before .before .before .before .before .before .before .before .before .before .before .before .before .before .before .before .before .before .before .before .pre .0) (c .before .before .before .before .before .before .before .before .before .before .before .before .before .before .before .before .before .before .before .before .pre .1) (rw (c .before .before .before .before .before .before .before .before .before .before .before .before .before .before .before .part-at .ensures, c .before .before .before .before .before .before .before .before .before .before .before .before .before .part-at2 .ensures) at (sym (c .before .before .before .before .before .before .before .before .before .before .before .before .lines-of-two .ensures) ∙ c .before .before .before .before .before .before .before .before .before .before .enum-told .given .1)))
+returns c = rw (c .recorded2 .ensures, c .before .recorded .ensures, c .before .before .before .before .fetch-run2 .ensures, c .before .before .before .before .before .before .before .before .before .fetch-run .ensures, c .before .before .before .before .before .before .before .before .before .before .before .before .before .before .before .before .before .part-at .ensures, c .before .before .before .before .before .before .before .before .before .before .before .before .before .before .before .part-at2 .ensures) (fetched-in-two _ _ (c .before .before .before .before .before .before .before .before .before .before .before .before .before .before .before .before .before .before .before .before .before .before .args .keys .now) _ _ _ _ _ (c .before .before .before .before .before .before .before .before .before .before .before .before .before .before .before .before .before .before .before .before .before .before .pre .0) (c .before .before .before .before .before .before .before .before .before .before .before .before .before .before .before .before .before .before .before .before .before .before .pre .1) (rw (c .before .before .before .before .before .before .before .before .before .before .before .before .before .before .before .before .before .part-at .ensures, c .before .before .before .before .before .before .before .before .before .before .before .before .before .before .before .part-at2 .ensures) at (sym (c .before .before .before .before .before .before .before .before .before .before .before .before .before .before .lines-of-two .ensures) ∙ c .before .before .before .before .before .before .before .before .before .before .before .before .enum-told .given .1)))
 
 same-length-3 : tie.Need-same-length-3
 same-length-3 c = search needs
@@ -71,7 +77,9 @@ fetch-in-two-spec =
     enum-told
     sub-rest
     cast-rest
+    cast-fetch-run
     fetch-run-requires
+    cast-fetch-run-2
     fetch-run-requires-2
     recorded-requires
     slice-write-keys

@@ -9,19 +9,25 @@ add24-requires c κs = search needs
 absolute-requires : tie.Need-absolute-requires
 absolute-requires c κs = search needs
 
-cast-at : tie.Need-cast-at
-cast-at c = search needs
+cast-unit-of : tie.Need-cast-unit-of
+cast-unit-of c = search needs
 
 unit-of-requires : tie.Need-unit-of-requires
 unit-of-requires c κs = search needs
 
-key-of-requires : tie.Need-key-of-requires
-key-of-requires c κs = search needs
+key-of-unit-requires : tie.Need-key-of-unit-requires
+key-of-unit-requires c κs = search needs
 
 returns : tie.Need-returns
-returns c = rw (c .key-of .ensures, c .before .unit-of .ensures, c .before .before .absolute .ensures, c .before .before .before .add24 .ensures)
+returns c = rw (c .key-of-unit .ensures, c .before .unit-of .ensures, c .before .before .absolute .ensures, c .before .before .before .add24 .ensures)
 
 pub part-at-spec : {M : Type 1} → statement M
 part-at-spec =
     tie.close
-    (tie.spec add24-requires absolute-requires cast-at unit-of-requires key-of-requires returns)
+    (tie.spec
+    add24-requires
+    absolute-requires
+    cast-unit-of
+    unit-of-requires
+    key-of-unit-requires
+    returns)

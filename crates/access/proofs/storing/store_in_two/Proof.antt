@@ -25,23 +25,29 @@ sub-rest c = search needs
 cast-rest : tie.Need-cast-rest
 cast-rest c = search needs
 
+cast-store-run : tie.Need-cast-store-run
+cast-store-run c = search needs
+
 store-run-requires : tie.Need-store-run-requires
-store-run-requires c κs = rw (c .before .before .before .before .before .before .part-at .ensures) (two-fit _ _ (c .before .before .before .before .before .before .before .before .before .before .before .args .keys .now) _ _ _ _ _ _ (c .before .before .before .before .before .before .before .before .before .before .before .pre .0) (c .before .before .before .before .before .before .before .before .before .before .before .pre .1) (rw (c .before .before .before .before .before .before .part-at .ensures, c .before .before .before .before .part-at2 .ensures) at (sym (c .before .before .before .lines-of-two .ensures) ∙ c .before .enum-told .given .1)) .0)
+store-run-requires c κs = rw (c .before .before .before .before .before .before .before .part-at .ensures) (two-fit _ _ (c .before .before .before .before .before .before .before .before .before .before .before .before .args .keys .now) _ _ _ _ _ _ (c .before .before .before .before .before .before .before .before .before .before .before .before .pre .0) (c .before .before .before .before .before .before .before .before .before .before .before .before .pre .1) (rw (c .before .before .before .before .before .before .before .part-at .ensures, c .before .before .before .before .before .part-at2 .ensures) at (sym (c .before .before .before .before .lines-of-two .ensures) ∙ c .before .before .enum-told .given .1)) .0)
+
+cast-store-run-2 : tie.Need-cast-store-run-2
+cast-store-run-2 c = search needs
 
 store-run-requires-2 : tie.Need-store-run-requires-2
-store-run-requires-2 c κs = rw (c .before .before .before .store-run .kept .0, c .before .before .before .before .before .before .before .before .part-at2 .ensures) (two-fit _ _ (c .before .before .before .before .before .before .before .before .before .before .before .before .before .before .before .args .keys .now) _ _ _ _ _ _ (c .before .before .before .before .before .before .before .before .before .before .before .before .before .before .before .pre .0) (c .before .before .before .before .before .before .before .before .before .before .before .before .before .before .before .pre .1) (rw (c .before .before .before .before .before .before .before .before .before .before .part-at .ensures, c .before .before .before .before .before .before .before .before .part-at2 .ensures) at (sym (c .before .before .before .before .before .before .before .lines-of-two .ensures) ∙ c .before .before .before .before .before .enum-told .given .1)) .1)
+store-run-requires-2 c κs = rw (c .before .before .before .before .store-run .kept .0, c .before .before .before .before .before .before .before .before .before .before .part-at2 .ensures) (two-fit _ _ (c .before .before .before .before .before .before .before .before .before .before .before .before .before .before .before .before .before .args .keys .now) _ _ _ _ _ _ (c .before .before .before .before .before .before .before .before .before .before .before .before .before .before .before .before .before .pre .0) (c .before .before .before .before .before .before .before .before .before .before .before .before .before .before .before .before .before .pre .1) (rw (c .before .before .before .before .before .before .before .before .before .before .before .before .part-at .ensures, c .before .before .before .before .before .before .before .before .before .before .part-at2 .ensures) at (sym (c .before .before .before .before .before .before .before .before .before .lines-of-two .ensures) ∙ c .before .before .before .before .before .before .before .enum-told .given .1)) .1)
 
 recorded-requires : tie.Need-recorded-requires
 recorded-requires c κs = search needs
 
 slice-write-keys : tie.Need-slice-write-keys
-slice-write-keys c = rw (c .before .before .before .before .before .before .before .before .before .before .before .before .before .before .part-at .ensures) (two-keyed _ _ (c .before .before .before .before .before .before .before .before .before .before .before .before .before .before .before .before .before .before .before .args .keys .now) _ _ _ _ _ _ (c .before .before .before .before .before .before .before .before .before .before .before .before .before .before .before .before .before .before .before .pre .0) (c .before .before .before .before .before .before .before .before .before .before .before .before .before .before .before .before .before .before .before .pre .1) (rw (c .before .before .before .before .before .before .before .before .before .before .before .before .before .before .part-at .ensures, c .before .before .before .before .before .before .before .before .before .before .before .before .part-at2 .ensures) at (sym (c .before .before .before .before .before .before .before .before .before .before .before .lines-of-two .ensures) ∙ c .before .before .before .before .before .before .before .before .before .enum-told .given .1)) .0)
+slice-write-keys c = rw (c .before .before .before .before .before .before .before .before .before .before .before .before .before .before .before .before .part-at .ensures) (two-keyed _ _ (c .before .before .before .before .before .before .before .before .before .before .before .before .before .before .before .before .before .before .before .before .before .args .keys .now) _ _ _ _ _ _ (c .before .before .before .before .before .before .before .before .before .before .before .before .before .before .before .before .before .before .before .before .before .pre .0) (c .before .before .before .before .before .before .before .before .before .before .before .before .before .before .before .before .before .before .before .before .before .pre .1) (rw (c .before .before .before .before .before .before .before .before .before .before .before .before .before .before .before .before .part-at .ensures, c .before .before .before .before .before .before .before .before .before .before .before .before .before .before .part-at2 .ensures) at (sym (c .before .before .before .before .before .before .before .before .before .before .before .before .before .lines-of-two .ensures) ∙ c .before .before .before .before .before .before .before .before .before .before .before .enum-told .given .1)) .0)
 
 recorded-requires-2 : tie.Need-recorded-requires-2
 recorded-requires-2 c κs = search needs
 
 slice-write-keys-2 : tie.Need-slice-write-keys-2
-slice-write-keys-2 c = rw (c .before .before .before .before .before .before .before .before .before .before .before .before .before .part-at2 .ensures) (simp length-set (two-keyed _ _ (c .before .before .before .before .before .before .before .before .before .before .before .before .before .before .before .before .before .before .before .before .args .keys .now) _ _ _ _ _ _ (c .before .before .before .before .before .before .before .before .before .before .before .before .before .before .before .before .before .before .before .before .pre .0) (c .before .before .before .before .before .before .before .before .before .before .before .before .before .before .before .before .before .before .before .before .pre .1) (rw (c .before .before .before .before .before .before .before .before .before .before .before .before .before .before .before .part-at .ensures, c .before .before .before .before .before .before .before .before .before .before .before .before .before .part-at2 .ensures) at (sym (c .before .before .before .before .before .before .before .before .before .before .before .before .lines-of-two .ensures) ∙ c .before .before .before .before .before .before .before .before .before .before .enum-told .given .1)) .1))
+slice-write-keys-2 c = rw (c .before .before .before .before .before .before .before .before .before .before .before .before .before .before .before .part-at2 .ensures) (simp length-set (two-keyed _ _ (c .before .before .before .before .before .before .before .before .before .before .before .before .before .before .before .before .before .before .before .before .before .before .args .keys .now) _ _ _ _ _ _ (c .before .before .before .before .before .before .before .before .before .before .before .before .before .before .before .before .before .before .before .before .before .before .pre .0) (c .before .before .before .before .before .before .before .before .before .before .before .before .before .before .before .before .before .before .before .before .before .before .pre .1) (rw (c .before .before .before .before .before .before .before .before .before .before .before .before .before .before .before .before .before .part-at .ensures, c .before .before .before .before .before .before .before .before .before .before .before .before .before .before .before .part-at2 .ensures) at (sym (c .before .before .before .before .before .before .before .before .before .before .before .before .before .before .lines-of-two .ensures) ∙ c .before .before .before .before .before .before .before .before .before .before .before .before .enum-told .given .1)) .1))
 
 enum-known-found : tie.Need-enum-known-found
 enum-known-found c = search needs
@@ -53,7 +59,7 @@ same-length-2 : tie.Need-same-length-2
 same-length-2 c = search needs
 
 returns : tie.Need-returns
-returns c = rw (c .recorded2 .ensures, c .before .recorded .ensures, c .before .before .before .before .store-run2 .ensures, c .before .before .before .before .before .before .before .before .store-run .ensures, c .before .before .before .before .before .before .before .before .before .before .before .before .before .before .before .part-at .ensures, c .before .before .before .before .before .before .before .before .before .before .before .before .before .part-at2 .ensures) (stored-in-two _ _ (c .before .before .before .before .before .before .before .before .before .before .before .before .before .before .before .before .before .before .before .before .args .keys .now) _ _ _ _ _ (c .before .before .before .before .before .before .before .before .before .before .before .before .before .before .before .before .before .before .before .before .pre .0) (c .before .before .before .before .before .before .before .before .before .before .before .before .before .before .before .before .before .before .before .before .pre .1) (rw (c .before .before .before .before .before .before .before .before .before .before .before .before .before .before .before .part-at .ensures, c .before .before .before .before .before .before .before .before .before .before .before .before .before .part-at2 .ensures) at (sym (c .before .before .before .before .before .before .before .before .before .before .before .before .lines-of-two .ensures) ∙ c .before .before .before .before .before .before .before .before .before .before .enum-told .given .1)))
+returns c = rw (c .recorded2 .ensures, c .before .recorded .ensures, c .before .before .before .before .store-run2 .ensures, c .before .before .before .before .before .before .before .before .before .store-run .ensures, c .before .before .before .before .before .before .before .before .before .before .before .before .before .before .before .before .before .part-at .ensures, c .before .before .before .before .before .before .before .before .before .before .before .before .before .before .before .part-at2 .ensures) (stored-in-two _ _ (c .before .before .before .before .before .before .before .before .before .before .before .before .before .before .before .before .before .before .before .before .before .before .args .keys .now) _ _ _ _ _ (c .before .before .before .before .before .before .before .before .before .before .before .before .before .before .before .before .before .before .before .before .before .before .pre .0) (c .before .before .before .before .before .before .before .before .before .before .before .before .before .before .before .before .before .before .before .before .before .before .pre .1) (rw (c .before .before .before .before .before .before .before .before .before .before .before .before .before .before .before .before .before .part-at .ensures, c .before .before .before .before .before .before .before .before .before .before .before .before .before .before .before .part-at2 .ensures) at (sym (c .before .before .before .before .before .before .before .before .before .before .before .before .before .before .lines-of-two .ensures) ∙ c .before .before .before .before .before .before .before .before .before .before .before .before .enum-told .given .1)))
 
 same-length-3 : tie.Need-same-length-3
 same-length-3 c = search needs
@@ -71,7 +77,9 @@ store-in-two-spec =
     enum-told
     sub-rest
     cast-rest
+    cast-store-run
     store-run-requires
+    cast-store-run-2
     store-run-requires-2
     recorded-requires
     slice-write-keys

@@ -31,8 +31,8 @@ cast-add24 c = omega arith
 add24-requires : tie.Need-add24-requires Inv-loop μ-loop
 add24-requires c κs = tt
 
-sub-at : tie.Need-sub-at Inv-loop μ-loop
-sub-at c = omega arith
+sub-offset : tie.Need-sub-offset Inv-loop μ-loop
+sub-offset c = omega arith
 
 cast-buffer : tie.Need-cast-buffer Inv-loop μ-loop
 cast-buffer c = omega arith
@@ -82,7 +82,7 @@ fetch-run-spec =
     loop-holds
     cast-add24
     add24-requires
-    sub-at
+    sub-offset
     cast-buffer
     add-buffer
     shared-slice-read-buffer

@@ -32,8 +32,8 @@ cast-add24 c = omega arith
 add24-requires : tie.Need-add24-requires Inv-loop μ-loop
 add24-requires c κs = tt
 
-sub-at : tie.Need-sub-at Inv-loop μ-loop
-sub-at c = omega arith
+sub-offset : tie.Need-sub-offset Inv-loop μ-loop
+sub-offset c = omega arith
 
 add-storage : tie.Need-add-storage Inv-loop μ-loop
 add-storage c = omega arith
@@ -79,7 +79,7 @@ store-run-spec =
     loop-holds
     cast-add24
     add24-requires
-    sub-at
+    sub-offset
     add-storage
     shared-slice-read-storage
     cast-storage

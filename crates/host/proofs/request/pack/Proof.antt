@@ -17,11 +17,14 @@ enum-known-answer-2 c = search needs
 number-of-requires : tie.Need-number-of-requires
 number-of-requires c κs = search needs
 
+cast-result-2 : tie.Need-cast-result-2
+cast-result-2 c = search needs
+
 mul-result : tie.Need-mul-result
 mul-result c = rw (c .number-of .ensures) (omega (arith, refusal-bounds (c .before .before .answer2 .given .0 .0)))
 
-cast-result-2 : tie.Need-cast-result-2
-cast-result-2 c = search needs
+cast-result-3 : tie.Need-cast-result-3
+cast-result-3 c = search needs
 
 mul-result-2 : tie.Need-mul-result-2
 mul-result-2 c = search needs
@@ -43,8 +46,9 @@ pack-spec =
     cast-result
     enum-known-answer-2
     number-of-requires
-    mul-result
     cast-result-2
+    mul-result
+    cast-result-3
     mul-result-2
     add-result
     returns

@@ -4,14 +4,24 @@ use mathlib.Core.Path.{sym}
 use lib.ListN.{List·getD-eq-default}
 use Rattle.host.specs.Boundary.{requests}
 use Rattle.host.proofs.Laws.{above}
+use borrow.Author.Needs.{needs}
 use Rattle.host.proofs.request.request_of.Statement.{statement}
 use Rattle.host.proofs.request.request_of.Tie as tie
 
+access-of-requires : tie.Need-access-of-requires
+access-of-requires c κs = search needs
+
+access-of-requires-2 : tie.Need-access-of-requires-2
+access-of-requires-2 c κs = search needs
+
+access-of-requires-3 : tie.Need-access-of-requires-3
+access-of-requires-3 c κs = search needs
+
 returns : tie.Need-returns
-returns c = rw (c .match .keys1)
+returns c = rw (c .before .match .keys1) (c .access-of .ensures)
 
 returns-2 : tie.Need-returns-2
-returns-2 c = rw (c .match .keys2)
+returns-2 c = rw (c .before .match .keys2) (c .access-of2 .ensures)
 
 returns-3 : tie.Need-returns-3
 returns-3 c = rw (c .match .keys3)
@@ -38,12 +48,15 @@ returns-10 : tie.Need-returns-10
 returns-10 c = rw (c .match .keys10)
 
 returns-11 : tie.Need-returns-11
-returns-11 c = sym (List·getD-eq-default (requests (c .before .args .first) (c .before .args .second)) _ (above (above (above (above (above (above (above (above (above (above zero-le (c .match .rest .0 .0 .0 .0 .0 .0 .0 .0 .0 .1)) (c .match .rest .0 .0 .0 .0 .0 .0 .0 .0 .1)) (c .match .rest .0 .0 .0 .0 .0 .0 .0 .1)) (c .match .rest .0 .0 .0 .0 .0 .0 .1)) (c .match .rest .0 .0 .0 .0 .0 .1)) (c .match .rest .0 .0 .0 .0 .1)) (c .match .rest .0 .0 .0 .1)) (c .match .rest .0 .0 .1)) (c .match .rest .0 .1)) (c .match .rest .1)))
+returns-11 c = rw (c .access-of3 .ensures) (sym (List·getD-eq-default (requests (c .before .before .args .first) (c .before .before .args .second)) _ (above (above (above (above (above (above (above (above (above (above zero-le (c .before .match .rest .0 .0 .0 .0 .0 .0 .0 .0 .0 .1)) (c .before .match .rest .0 .0 .0 .0 .0 .0 .0 .0 .1)) (c .before .match .rest .0 .0 .0 .0 .0 .0 .0 .1)) (c .before .match .rest .0 .0 .0 .0 .0 .0 .1)) (c .before .match .rest .0 .0 .0 .0 .0 .1)) (c .before .match .rest .0 .0 .0 .0 .1)) (c .before .match .rest .0 .0 .0 .1)) (c .before .match .rest .0 .0 .1)) (c .before .match .rest .0 .1)) (c .before .match .rest .1))))
 
 pub request-of-spec : {M : Type 1} → statement M
 request-of-spec =
     tie.close
     (tie.spec
+    access-of-requires
+    access-of-requires-2
+    access-of-requires-3
     returns
     returns-2
     returns-3

@@ -1,5 +1,4 @@
--- An access by unit: the bytes that its first unit holds of it, its parts, and tests at the first byte of each part in the place of one for
--- each byte.
+-- An access by unit: how far its first unit reaches, its parts, and tests at the first byte of each part in the place of one for each byte.
 use Prim.Native.Nat.{ℕ, _-_, _%_}
 use mathlib.Core.Bool.{Bool, cond, not, _&&_}
 use mathlib.Core.List.{List}
@@ -27,7 +26,7 @@ left s start = unitSize s - start % unitSize s
 -- the part of an access from byte i on
 abbrev pub partAt : Settings → List ℕ → Processor → ℕ → ℕ → Part
 partAt s keys p start i =
-    record { real = add24 start i; at = byteAt p start i; unit = unitOf s (byteAt p start i); key = getD keys (unitOf s (byteAt p start i)) 0 }
+    record { real = add24 start i; absolute = byteAt p start i; unit = unitOf s (byteAt p start i); key = getD keys (unitOf s (byteAt p start i)) 0 }
 
 -- lines 64, 65 and 66
 abbrev pub firstLines : Settings → ℕ → ℕ → ℕ → Processor → AccessKind → ℕ → ℕ → ℕ → Verdict
@@ -37,17 +36,17 @@ firstLines s storageLength keyLength n p kind start count bufferLength =
     (line Operand (operandInvalid (Access kind start count) bufferLength))
 
 -- lines 5 and 67 at the first byte of a part
-abbrev pub outside : ℕ → Part → Bool
-outside storageLength here = leb storageLength (here .real)
+abbrev pub partOutside : ℕ → Part → Bool
+partOutside storageLength here = leb storageLength (here .real)
 
-abbrev pub absoluteOutside : ℕ → Part → Bool
-absoluteOutside storageLength here = ltb (here .real) storageLength && leb storageLength (here .at)
+abbrev pub partAbsoluteOutside : ℕ → Part → Bool
+partAbsoluteOutside storageLength here = ltb (here .real) storageLength && leb storageLength (here .absolute)
 
 -- lines 5, 67 and 4 of an access in one unit
 abbrev pub linesOfOne : ℕ → Processor → AccessKind → Part → Verdict
 linesOfOne storageLength p kind here =
-    firstOf (line Addressing (outside storageLength here))
-    (firstOf (line AbsoluteAddress (absoluteOutside storageLength here)) (line Protection (forbidden kind p (here .real) (here .key))))
+    firstOf (line Addressing (partOutside storageLength here))
+    (firstOf (line AbsoluteAddress (partAbsoluteOutside storageLength here)) (line Protection (forbidden kind p (here .real) (here .key))))
 
 -- refused at byte 0 where the first test holds, else at byte k where the second does
 unfoldable pub twoTests : Reason → Bool → ℕ → Bool → Verdict
@@ -56,6 +55,6 @@ twoTests r here k there = firstOf (cond here (Stop r 0) Clear) (cond there (Stop
 -- lines 5, 67 and 4 of an access in two units, byte k being the first in the second unit
 abbrev pub linesOfTwo : ℕ → Processor → AccessKind → Part → ℕ → Part → Verdict
 linesOfTwo storageLength p kind here k there =
-    firstOf (twoTests Addressing (outside storageLength here) k (outside storageLength there))
-    (firstOf (twoTests AbsoluteAddress (absoluteOutside storageLength here) k (absoluteOutside storageLength there))
+    firstOf (twoTests Addressing (partOutside storageLength here) k (partOutside storageLength there))
+    (firstOf (twoTests AbsoluteAddress (partAbsoluteOutside storageLength here) k (partAbsoluteOutside storageLength there))
     (twoTests Protection (forbidden kind p (here .real) (here .key)) k (forbidden kind p (there .real) (there .key))))

@@ -1,11 +1,15 @@
 // The parts of an access: an access touches at most two units, and its part in each has one displacement from real to absolute addresses.
+use machine::AccessKind;
 use machine::Processor;
 use machine::Settings;
 use machine::numbers::unit_of;
 use prefixing::absolute;
 use prefixing::add24;
+use storage_key::recorded;
+ghost use Prim.Native.Nat.{_<_};
 ghost use mathlib.Core.Path.{_≡_};
-ghost use lib.ListN.{getD};
+ghost use lib.ListN.{getD, length, set};
+ghost use Rattle.machine.specs.Protection.{recorded as recordedBy};
 ghost use Rattle.access.specs.ByUnit.{left as leftOf, partAt};
 
 // The part of an access from one of its bytes on, in the unit of that byte.
@@ -52,4 +56,13 @@ pub(crate) fn left(settings: Settings, start: u32) -> u32
     } else {
         2048 - start % 2048
     }
+}
+
+// Records an access in the key of a part's unit.
+pub(crate) fn record_in_key(keys: &mut [u8], kind: AccessKind, here: Part)
+    requires { ⌜ here .unit < length (now keys) ⌝ }
+    ensures { λ _. ⌜ now (keys .exit) ≡ set (now (keys .entry)) (here .unit) (recordedBy kind (here .key)) ⌝ }
+{
+    let unit = here.unit;
+    keys[unit] = recorded(kind, here.key);
 }

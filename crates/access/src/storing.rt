@@ -3,13 +3,13 @@
 use crate::check::lines_of_one;
 use crate::check::lines_of_two;
 use crate::part::part_at;
+use crate::part::record_in_key;
 use crate::transfer::store_run;
 use machine::AccessKind;
 use machine::Answer;
 use machine::Processor;
 use machine::Settings;
 use machine::Verdict;
-use storage_key::recorded;
 ghost use Prim.Native.Nat.{_≤_, _<_};
 ghost use mathlib.Core.Path.{_≡_};
 ghost use lib.ListN.{length};
@@ -42,8 +42,7 @@ pub(crate) fn store_in_one(
                 0,
                 count as usize,
             );
-            let unit = here.unit;
-            keys[unit] = recorded(kind, here.key);
+            record_in_key(keys, kind, here);
             Answer::Completed { word: 0 }
         }
         Verdict::Stop { reason, place } => Answer::Refused { reason, place },
@@ -87,10 +86,8 @@ pub(crate) fn store_in_two(
                 k as usize,
                 rest,
             );
-            let first = here.unit;
-            let last = there.unit;
-            keys[first] = recorded(kind, here.key);
-            keys[last] = recorded(kind, there.key);
+            record_in_key(keys, kind, here);
+            record_in_key(keys, kind, there);
             Answer::Completed { word: 0 }
         }
         Verdict::Stop { reason, place } => Answer::Refused { reason, place },

@@ -1,6 +1,5 @@
 -- `fetch_in_two` moves two runs and writes two keys, by the verdict of its lines. Assumes nothing.
 use mathlib.Core.Path.{sym, _∙_}
-use lib.ListN.{length-set}
 use Rattle.access.proofs.Completed.{access-refused}
 use Rattle.access.proofs.Parts.{two-fit, two-keyed, fetched-in-two}
 use borrow.Author.Needs.{needs}
@@ -37,17 +36,11 @@ cast-fetch-run-2 c = search needs
 fetch-run-requires-2 : tie.Need-fetch-run-requires-2
 fetch-run-requires-2 c κs = rw (c .before .before .before .before .fetch-run .kept .1 .1 .1 .0, c .before .before .before .before .before .before .before .before .before .before .part-at2 .ensures) (two-fit _ _ (c .before .before .before .before .before .before .before .before .before .before .before .before .before .before .before .before .before .args .keys .now) _ _ _ _ _ _ (c .before .before .before .before .before .before .before .before .before .before .before .before .before .before .before .before .before .pre .0) (c .before .before .before .before .before .before .before .before .before .before .before .before .before .before .before .before .before .pre .1) (rw (c .before .before .before .before .before .before .before .before .before .before .before .before .part-at .ensures, c .before .before .before .before .before .before .before .before .before .before .part-at2 .ensures) at (sym (c .before .before .before .before .before .before .before .before .before .lines-of-two .ensures) ∙ c .before .before .before .before .before .before .before .enum-told .given .1)) .1)
 
-recorded-requires : tie.Need-recorded-requires
-recorded-requires c κs = search needs
+record-in-key-requires : tie.Need-record-in-key-requires
+record-in-key-requires c κs = rw (c .before .before .before .before .before .before .before .before .before .before .before .before .before .before .before .before .part-at .ensures) (two-keyed _ _ (c .before .before .before .before .before .before .before .before .before .before .before .before .before .before .before .before .before .before .before .before .before .args .keys .now) _ _ _ _ _ _ (c .before .before .before .before .before .before .before .before .before .before .before .before .before .before .before .before .before .before .before .before .before .pre .0) (c .before .before .before .before .before .before .before .before .before .before .before .before .before .before .before .before .before .before .before .before .before .pre .1) (rw (c .before .before .before .before .before .before .before .before .before .before .before .before .before .before .before .before .part-at .ensures, c .before .before .before .before .before .before .before .before .before .before .before .before .before .before .part-at2 .ensures) at (sym (c .before .before .before .before .before .before .before .before .before .before .before .before .before .lines-of-two .ensures) ∙ c .before .before .before .before .before .before .before .before .before .before .before .enum-told .given .1)) .0)
 
-slice-write-keys : tie.Need-slice-write-keys
-slice-write-keys c = rw (c .before .before .before .before .before .before .before .before .before .before .before .before .before .before .before .before .part-at .ensures) (two-keyed _ _ (c .before .before .before .before .before .before .before .before .before .before .before .before .before .before .before .before .before .before .before .before .before .args .keys .now) _ _ _ _ _ _ (c .before .before .before .before .before .before .before .before .before .before .before .before .before .before .before .before .before .before .before .before .before .pre .0) (c .before .before .before .before .before .before .before .before .before .before .before .before .before .before .before .before .before .before .before .before .before .pre .1) (rw (c .before .before .before .before .before .before .before .before .before .before .before .before .before .before .before .before .part-at .ensures, c .before .before .before .before .before .before .before .before .before .before .before .before .before .before .part-at2 .ensures) at (sym (c .before .before .before .before .before .before .before .before .before .before .before .before .before .lines-of-two .ensures) ∙ c .before .before .before .before .before .before .before .before .before .before .before .enum-told .given .1)) .0)
-
-recorded-requires-2 : tie.Need-recorded-requires-2
-recorded-requires-2 c κs = search needs
-
-slice-write-keys-2 : tie.Need-slice-write-keys-2
-slice-write-keys-2 c = rw (c .before .before .before .before .before .before .before .before .before .before .before .before .before .before .before .part-at2 .ensures) (simp length-set (two-keyed _ _ (c .before .before .before .before .before .before .before .before .before .before .before .before .before .before .before .before .before .before .before .before .before .before .args .keys .now) _ _ _ _ _ _ (c .before .before .before .before .before .before .before .before .before .before .before .before .before .before .before .before .before .before .before .before .before .before .pre .0) (c .before .before .before .before .before .before .before .before .before .before .before .before .before .before .before .before .before .before .before .before .before .before .pre .1) (rw (c .before .before .before .before .before .before .before .before .before .before .before .before .before .before .before .before .before .part-at .ensures, c .before .before .before .before .before .before .before .before .before .before .before .before .before .before .before .part-at2 .ensures) at (sym (c .before .before .before .before .before .before .before .before .before .before .before .before .before .before .lines-of-two .ensures) ∙ c .before .before .before .before .before .before .before .before .before .before .before .before .enum-told .given .1)) .1))
+record-in-key-requires-2 : tie.Need-record-in-key-requires-2
+record-in-key-requires-2 c κs = rw (c .before .before .before .record-in-key .kept .0, c .before .before .before .before .before .before .before .before .before .before .before .before .before .before .before .before .before .before .part-at2 .ensures) (two-keyed _ _ (c .before .before .before .before .before .before .before .before .before .before .before .before .before .before .before .before .before .before .before .before .before .before .before .before .before .args .keys .now) _ _ _ _ _ _ (c .before .before .before .before .before .before .before .before .before .before .before .before .before .before .before .before .before .before .before .before .before .before .before .before .before .pre .0) (c .before .before .before .before .before .before .before .before .before .before .before .before .before .before .before .before .before .before .before .before .before .before .before .before .before .pre .1) (rw (c .before .before .before .before .before .before .before .before .before .before .before .before .before .before .before .before .before .before .before .before .part-at .ensures, c .before .before .before .before .before .before .before .before .before .before .before .before .before .before .before .before .before .before .part-at2 .ensures) at (sym (c .before .before .before .before .before .before .before .before .before .before .before .before .before .before .before .before .before .lines-of-two .ensures) ∙ c .before .before .before .before .before .before .before .before .before .before .before .before .before .before .before .enum-told .given .1)) .1)
 
 enum-known-found : tie.Need-enum-known-found
 enum-known-found c = search needs
@@ -59,7 +52,7 @@ same-length-2 : tie.Need-same-length-2
 same-length-2 c = search needs
 
 returns : tie.Need-returns
-returns c = rw (c .recorded2 .ensures, c .before .recorded .ensures, c .before .before .before .before .fetch-run2 .ensures, c .before .before .before .before .before .before .before .before .before .fetch-run .ensures, c .before .before .before .before .before .before .before .before .before .before .before .before .before .before .before .before .before .part-at .ensures, c .before .before .before .before .before .before .before .before .before .before .before .before .before .before .before .part-at2 .ensures) (fetched-in-two _ _ (c .before .before .before .before .before .before .before .before .before .before .before .before .before .before .before .before .before .before .before .before .before .before .args .keys .now) _ _ _ _ _ (c .before .before .before .before .before .before .before .before .before .before .before .before .before .before .before .before .before .before .before .before .before .before .pre .0) (c .before .before .before .before .before .before .before .before .before .before .before .before .before .before .before .before .before .before .before .before .before .before .pre .1) (rw (c .before .before .before .before .before .before .before .before .before .before .before .before .before .before .before .before .before .part-at .ensures, c .before .before .before .before .before .before .before .before .before .before .before .before .before .before .before .part-at2 .ensures) at (sym (c .before .before .before .before .before .before .before .before .before .before .before .before .before .before .lines-of-two .ensures) ∙ c .before .before .before .before .before .before .before .before .before .before .before .before .enum-told .given .1)))
+returns c = rw (c .before .before .record-in-key2 .ensures, c .before .before .before .before .before .before .record-in-key .ensures, c .before .before .before .before .before .before .before .before .before .before .fetch-run2 .ensures, c .before .before .before .before .before .before .before .before .before .before .before .before .before .before .before .fetch-run .ensures, c .before .before .before .before .before .before .before .before .before .before .before .before .before .before .before .before .before .before .before .before .before .before .before .part-at .ensures, c .before .before .before .before .before .before .before .before .before .before .before .before .before .before .before .before .before .before .before .before .before .part-at2 .ensures) (fetched-in-two _ _ (c .before .before .before .before .before .before .before .before .before .before .before .before .before .before .before .before .before .before .before .before .before .before .before .before .before .before .before .before .args .keys .now) _ _ _ _ _ (c .before .before .before .before .before .before .before .before .before .before .before .before .before .before .before .before .before .before .before .before .before .before .before .before .before .before .before .before .pre .0) (c .before .before .before .before .before .before .before .before .before .before .before .before .before .before .before .before .before .before .before .before .before .before .before .before .before .before .before .before .pre .1) (rw (c .before .before .before .before .before .before .before .before .before .before .before .before .before .before .before .before .before .before .before .before .before .before .before .part-at .ensures, c .before .before .before .before .before .before .before .before .before .before .before .before .before .before .before .before .before .before .before .before .before .part-at2 .ensures) at (sym (c .before .before .before .before .before .before .before .before .before .before .before .before .before .before .before .before .before .before .before .before .lines-of-two .ensures) ∙ c .before .before .before .before .before .before .before .before .before .before .before .before .before .before .before .before .before .before .enum-told .given .1)))
 
 same-length-3 : tie.Need-same-length-3
 same-length-3 c = search needs
@@ -81,10 +74,8 @@ fetch-in-two-spec =
     fetch-run-requires
     cast-fetch-run-2
     fetch-run-requires-2
-    recorded-requires
-    slice-write-keys
-    recorded-requires-2
-    slice-write-keys-2
+    record-in-key-requires
+    record-in-key-requires-2
     enum-known-found
     same-length
     same-length-2

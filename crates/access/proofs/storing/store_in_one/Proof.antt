@@ -21,11 +21,8 @@ cast-store-run c = search needs
 store-run-requires : tie.Need-store-run-requires
 store-run-requires c κs = rw (c .before .before .before .before .before .part-at .ensures) (one-fits _ _ (c .before .before .before .before .before .before .before .before .before .before .args .keys .now) _ _ _ _ _ (c .before .before .before .before .before .before .before .before .before .before .pre .0) (c .before .before .before .before .before .before .before .before .before .before .pre .1) (rw (c .before .before .before .before .before .part-at .ensures) at (sym (c .before .before .before .before .lines-of-one .ensures) ∙ c .before .before .enum-told .given .1)))
 
-recorded-requires : tie.Need-recorded-requires
-recorded-requires c κs = search needs
-
-slice-write-keys : tie.Need-slice-write-keys
-slice-write-keys c = rw (c .before .before .before .before .before .before .before .before .before .part-at .ensures) (one-keyed _ _ (c .before .before .before .before .before .before .before .before .before .before .before .before .before .before .args .keys .now) _ _ _ _ _ (c .before .before .before .before .before .before .before .before .before .before .before .before .before .before .pre .0) (c .before .before .before .before .before .before .before .before .before .before .before .before .before .before .pre .1) (rw (c .before .before .before .before .before .before .before .before .before .part-at .ensures) at (sym (c .before .before .before .before .before .before .before .before .lines-of-one .ensures) ∙ c .before .before .before .before .before .before .enum-told .given .1)))
+record-in-key-requires : tie.Need-record-in-key-requires
+record-in-key-requires c κs = rw (c .before .before .before .before .before .before .before .before .before .part-at .ensures) (one-keyed _ _ (c .before .before .before .before .before .before .before .before .before .before .before .before .before .before .args .keys .now) _ _ _ _ _ (c .before .before .before .before .before .before .before .before .before .before .before .before .before .before .pre .0) (c .before .before .before .before .before .before .before .before .before .before .before .before .before .before .pre .1) (rw (c .before .before .before .before .before .before .before .before .before .part-at .ensures) at (sym (c .before .before .before .before .before .before .before .before .lines-of-one .ensures) ∙ c .before .before .before .before .before .before .enum-told .given .1)))
 
 enum-known-found : tie.Need-enum-known-found
 enum-known-found c = search needs
@@ -37,7 +34,7 @@ same-length-2 : tie.Need-same-length-2
 same-length-2 c = search needs
 
 returns : tie.Need-returns
-returns c = rw (c .recorded .ensures, c .before .before .before .store-run .ensures, c .before .before .before .before .before .before .before .before .before .part-at .ensures) (stored-in-one _ _ (c .before .before .before .before .before .before .before .before .before .before .before .before .before .before .args .keys .now) _ _ _ _ (c .before .before .before .before .before .before .before .before .before .before .before .before .before .before .pre .0) (c .before .before .before .before .before .before .before .before .before .before .before .before .before .before .pre .1) (rw (c .before .before .before .before .before .before .before .before .before .part-at .ensures) at (sym (c .before .before .before .before .before .before .before .before .lines-of-one .ensures) ∙ c .before .before .before .before .before .before .enum-told .given .1)))
+returns c = rw (c .before .before .record-in-key .ensures, c .before .before .before .before .before .before .store-run .ensures, c .before .before .before .before .before .before .before .before .before .before .before .before .part-at .ensures) (stored-in-one _ _ (c .before .before .before .before .before .before .before .before .before .before .before .before .before .before .before .before .before .args .keys .now) _ _ _ _ (c .before .before .before .before .before .before .before .before .before .before .before .before .before .before .before .before .before .pre .0) (c .before .before .before .before .before .before .before .before .before .before .before .before .before .before .before .before .before .pre .1) (rw (c .before .before .before .before .before .before .before .before .before .before .before .before .part-at .ensures) at (sym (c .before .before .before .before .before .before .before .before .before .before .before .lines-of-one .ensures) ∙ c .before .before .before .before .before .before .before .before .before .enum-told .given .1)))
 
 same-length-3 : tie.Need-same-length-3
 same-length-3 c = search needs
@@ -54,8 +51,7 @@ store-in-one-spec =
     enum-told
     cast-store-run
     store-run-requires
-    recorded-requires
-    slice-write-keys
+    record-in-key-requires
     enum-known-found
     same-length
     same-length-2

@@ -34,14 +34,7 @@ pub(crate) fn fetch_in_one(
     let found = lines_of_one(storage.len(), p, kind, here);
     match found {
         Verdict::Clear => {
-            fetch_run(
-                storage,
-                here.absolute as usize,
-                here.real,
-                buffer,
-                0,
-                count as usize,
-            );
+            fetch_run(storage, here, buffer, 0, count as usize);
             record_in_key(keys, kind, here);
             Answer::Completed { word: 0 }
         }
@@ -70,22 +63,8 @@ pub(crate) fn fetch_in_two(
     match found {
         Verdict::Clear => {
             let rest = (count - k) as usize;
-            fetch_run(
-                storage,
-                here.absolute as usize,
-                here.real,
-                buffer,
-                0,
-                k as usize,
-            );
-            fetch_run(
-                storage,
-                there.absolute as usize,
-                there.real,
-                buffer,
-                k as usize,
-                rest,
-            );
+            fetch_run(storage, here, buffer, 0, k as usize);
+            fetch_run(storage, there, buffer, k as usize, rest);
             record_in_key(keys, kind, here);
             record_in_key(keys, kind, there);
             Answer::Completed { word: 0 }

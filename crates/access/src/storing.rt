@@ -34,14 +34,7 @@ pub(crate) fn store_in_one(
     let found = lines_of_one(storage.len(), p, kind, here);
     match found {
         Verdict::Clear => {
-            store_run(
-                storage,
-                here.absolute as usize,
-                here.real,
-                bytes,
-                0,
-                count as usize,
-            );
+            store_run(storage, here, bytes, 0, count as usize);
             record_in_key(keys, kind, here);
             Answer::Completed { word: 0 }
         }
@@ -70,22 +63,8 @@ pub(crate) fn store_in_two(
     match found {
         Verdict::Clear => {
             let rest = (count - k) as usize;
-            store_run(
-                storage,
-                here.absolute as usize,
-                here.real,
-                bytes,
-                0,
-                k as usize,
-            );
-            store_run(
-                storage,
-                there.absolute as usize,
-                there.real,
-                bytes,
-                k as usize,
-                rest,
-            );
+            store_run(storage, here, bytes, 0, k as usize);
+            store_run(storage, there, bytes, k as usize, rest);
             record_in_key(keys, kind, here);
             record_in_key(keys, kind, there);
             Answer::Completed { word: 0 }

@@ -24,23 +24,17 @@ sub-rest c = search needs
 cast-rest : tie.Need-cast-rest
 cast-rest c = search needs
 
-cast-fetch-run : tie.Need-cast-fetch-run
-cast-fetch-run c = search needs
-
 fetch-run-requires : tie.Need-fetch-run-requires
-fetch-run-requires c κs = rw (c .before .before .before .before .before .before .before .part-at .ensures) (two-fit _ _ (c .before .before .before .before .before .before .before .before .before .before .before .before .args .keys .now) _ _ _ _ _ _ (c .before .before .before .before .before .before .before .before .before .before .before .before .pre .0) (c .before .before .before .before .before .before .before .before .before .before .before .before .pre .1) (rw (c .before .before .before .before .before .before .before .part-at .ensures, c .before .before .before .before .before .part-at2 .ensures) at (sym (c .before .before .before .before .lines-of-two .ensures) ∙ c .before .before .enum-told .given .1)) .0)
-
-cast-fetch-run-2 : tie.Need-cast-fetch-run-2
-cast-fetch-run-2 c = search needs
+fetch-run-requires c κs = rw (c .before .before .before .before .before .before .part-at .ensures) (two-fit _ _ (c .before .before .before .before .before .before .before .before .before .before .before .args .keys .now) _ _ _ _ _ _ (c .before .before .before .before .before .before .before .before .before .before .before .pre .0) (c .before .before .before .before .before .before .before .before .before .before .before .pre .1) (rw (c .before .before .before .before .before .before .part-at .ensures, c .before .before .before .before .part-at2 .ensures) at (sym (c .before .before .before .lines-of-two .ensures) ∙ c .before .enum-told .given .1)) .0)
 
 fetch-run-requires-2 : tie.Need-fetch-run-requires-2
-fetch-run-requires-2 c κs = rw (c .before .before .before .before .fetch-run .kept .1 .1 .1 .0, c .before .before .before .before .before .before .before .before .before .before .part-at2 .ensures) (two-fit _ _ (c .before .before .before .before .before .before .before .before .before .before .before .before .before .before .before .before .before .args .keys .now) _ _ _ _ _ _ (c .before .before .before .before .before .before .before .before .before .before .before .before .before .before .before .before .before .pre .0) (c .before .before .before .before .before .before .before .before .before .before .before .before .before .before .before .before .before .pre .1) (rw (c .before .before .before .before .before .before .before .before .before .before .before .before .part-at .ensures, c .before .before .before .before .before .before .before .before .before .before .part-at2 .ensures) at (sym (c .before .before .before .before .before .before .before .before .before .lines-of-two .ensures) ∙ c .before .before .before .before .before .before .before .enum-told .given .1)) .1)
+fetch-run-requires-2 c κs = rw (c .before .before .before .fetch-run .kept .1 .1 .0, c .before .before .before .before .before .before .before .before .part-at2 .ensures) (two-fit _ _ (c .before .before .before .before .before .before .before .before .before .before .before .before .before .before .before .args .keys .now) _ _ _ _ _ _ (c .before .before .before .before .before .before .before .before .before .before .before .before .before .before .before .pre .0) (c .before .before .before .before .before .before .before .before .before .before .before .before .before .before .before .pre .1) (rw (c .before .before .before .before .before .before .before .before .before .before .part-at .ensures, c .before .before .before .before .before .before .before .before .part-at2 .ensures) at (sym (c .before .before .before .before .before .before .before .lines-of-two .ensures) ∙ c .before .before .before .before .before .enum-told .given .1)) .1)
 
 record-in-key-requires : tie.Need-record-in-key-requires
-record-in-key-requires c κs = rw (c .before .before .before .before .before .before .before .before .before .before .before .before .before .before .before .before .part-at .ensures) (two-keyed _ _ (c .before .before .before .before .before .before .before .before .before .before .before .before .before .before .before .before .before .before .before .before .before .args .keys .now) _ _ _ _ _ _ (c .before .before .before .before .before .before .before .before .before .before .before .before .before .before .before .before .before .before .before .before .before .pre .0) (c .before .before .before .before .before .before .before .before .before .before .before .before .before .before .before .before .before .before .before .before .before .pre .1) (rw (c .before .before .before .before .before .before .before .before .before .before .before .before .before .before .before .before .part-at .ensures, c .before .before .before .before .before .before .before .before .before .before .before .before .before .before .part-at2 .ensures) at (sym (c .before .before .before .before .before .before .before .before .before .before .before .before .before .lines-of-two .ensures) ∙ c .before .before .before .before .before .before .before .before .before .before .before .enum-told .given .1)) .0)
+record-in-key-requires c κs = rw (c .before .before .before .before .before .before .before .before .before .before .before .before .before .before .part-at .ensures) (two-keyed _ _ (c .before .before .before .before .before .before .before .before .before .before .before .before .before .before .before .before .before .before .before .args .keys .now) _ _ _ _ _ _ (c .before .before .before .before .before .before .before .before .before .before .before .before .before .before .before .before .before .before .before .pre .0) (c .before .before .before .before .before .before .before .before .before .before .before .before .before .before .before .before .before .before .before .pre .1) (rw (c .before .before .before .before .before .before .before .before .before .before .before .before .before .before .part-at .ensures, c .before .before .before .before .before .before .before .before .before .before .before .before .part-at2 .ensures) at (sym (c .before .before .before .before .before .before .before .before .before .before .before .lines-of-two .ensures) ∙ c .before .before .before .before .before .before .before .before .before .enum-told .given .1)) .0)
 
 record-in-key-requires-2 : tie.Need-record-in-key-requires-2
-record-in-key-requires-2 c κs = rw (c .before .before .before .record-in-key .kept .0, c .before .before .before .before .before .before .before .before .before .before .before .before .before .before .before .before .before .before .part-at2 .ensures) (two-keyed _ _ (c .before .before .before .before .before .before .before .before .before .before .before .before .before .before .before .before .before .before .before .before .before .before .before .before .before .args .keys .now) _ _ _ _ _ _ (c .before .before .before .before .before .before .before .before .before .before .before .before .before .before .before .before .before .before .before .before .before .before .before .before .before .pre .0) (c .before .before .before .before .before .before .before .before .before .before .before .before .before .before .before .before .before .before .before .before .before .before .before .before .before .pre .1) (rw (c .before .before .before .before .before .before .before .before .before .before .before .before .before .before .before .before .before .before .before .before .part-at .ensures, c .before .before .before .before .before .before .before .before .before .before .before .before .before .before .before .before .before .before .part-at2 .ensures) at (sym (c .before .before .before .before .before .before .before .before .before .before .before .before .before .before .before .before .before .lines-of-two .ensures) ∙ c .before .before .before .before .before .before .before .before .before .before .before .before .before .before .before .enum-told .given .1)) .1)
+record-in-key-requires-2 c κs = rw (c .before .before .before .record-in-key .kept .0, c .before .before .before .before .before .before .before .before .before .before .before .before .before .before .before .before .part-at2 .ensures) (two-keyed _ _ (c .before .before .before .before .before .before .before .before .before .before .before .before .before .before .before .before .before .before .before .before .before .before .before .args .keys .now) _ _ _ _ _ _ (c .before .before .before .before .before .before .before .before .before .before .before .before .before .before .before .before .before .before .before .before .before .before .before .pre .0) (c .before .before .before .before .before .before .before .before .before .before .before .before .before .before .before .before .before .before .before .before .before .before .before .pre .1) (rw (c .before .before .before .before .before .before .before .before .before .before .before .before .before .before .before .before .before .before .part-at .ensures, c .before .before .before .before .before .before .before .before .before .before .before .before .before .before .before .before .part-at2 .ensures) at (sym (c .before .before .before .before .before .before .before .before .before .before .before .before .before .before .before .lines-of-two .ensures) ∙ c .before .before .before .before .before .before .before .before .before .before .before .before .before .enum-told .given .1)) .1)
 
 enum-known-found : tie.Need-enum-known-found
 enum-known-found c = search needs
@@ -52,7 +46,7 @@ same-length-2 : tie.Need-same-length-2
 same-length-2 c = search needs
 
 returns : tie.Need-returns
-returns c = rw (c .before .before .record-in-key2 .ensures, c .before .before .before .before .before .before .record-in-key .ensures, c .before .before .before .before .before .before .before .before .before .before .fetch-run2 .ensures, c .before .before .before .before .before .before .before .before .before .before .before .before .before .before .before .fetch-run .ensures, c .before .before .before .before .before .before .before .before .before .before .before .before .before .before .before .before .before .before .before .before .before .before .before .part-at .ensures, c .before .before .before .before .before .before .before .before .before .before .before .before .before .before .before .before .before .before .before .before .before .part-at2 .ensures) (fetched-in-two _ _ (c .before .before .before .before .before .before .before .before .before .before .before .before .before .before .before .before .before .before .before .before .before .before .before .before .before .before .before .before .args .keys .now) _ _ _ _ _ (c .before .before .before .before .before .before .before .before .before .before .before .before .before .before .before .before .before .before .before .before .before .before .before .before .before .before .before .before .pre .0) (c .before .before .before .before .before .before .before .before .before .before .before .before .before .before .before .before .before .before .before .before .before .before .before .before .before .before .before .before .pre .1) (rw (c .before .before .before .before .before .before .before .before .before .before .before .before .before .before .before .before .before .before .before .before .before .before .before .part-at .ensures, c .before .before .before .before .before .before .before .before .before .before .before .before .before .before .before .before .before .before .before .before .before .part-at2 .ensures) at (sym (c .before .before .before .before .before .before .before .before .before .before .before .before .before .before .before .before .before .before .before .before .lines-of-two .ensures) ∙ c .before .before .before .before .before .before .before .before .before .before .before .before .before .before .before .before .before .before .enum-told .given .1)))
+returns c = rw (c .before .before .record-in-key2 .ensures, c .before .before .before .before .before .before .record-in-key .ensures, c .before .before .before .before .before .before .before .before .before .before .fetch-run2 .ensures, c .before .before .before .before .before .before .before .before .before .before .before .before .before .before .fetch-run .ensures, c .before .before .before .before .before .before .before .before .before .before .before .before .before .before .before .before .before .before .before .before .before .part-at .ensures, c .before .before .before .before .before .before .before .before .before .before .before .before .before .before .before .before .before .before .before .part-at2 .ensures) (fetched-in-two _ _ (c .before .before .before .before .before .before .before .before .before .before .before .before .before .before .before .before .before .before .before .before .before .before .before .before .before .before .args .keys .now) _ _ _ _ _ (c .before .before .before .before .before .before .before .before .before .before .before .before .before .before .before .before .before .before .before .before .before .before .before .before .before .before .pre .0) (c .before .before .before .before .before .before .before .before .before .before .before .before .before .before .before .before .before .before .before .before .before .before .before .before .before .before .pre .1) (rw (c .before .before .before .before .before .before .before .before .before .before .before .before .before .before .before .before .before .before .before .before .before .part-at .ensures, c .before .before .before .before .before .before .before .before .before .before .before .before .before .before .before .before .before .before .before .part-at2 .ensures) at (sym (c .before .before .before .before .before .before .before .before .before .before .before .before .before .before .before .before .before .before .lines-of-two .ensures) ∙ c .before .before .before .before .before .before .before .before .before .before .before .before .before .before .before .before .enum-told .given .1)))
 
 same-length-3 : tie.Need-same-length-3
 same-length-3 c = search needs
@@ -70,9 +64,7 @@ fetch-in-two-spec =
     enum-told
     sub-rest
     cast-rest
-    cast-fetch-run
     fetch-run-requires
-    cast-fetch-run-2
     fetch-run-requires-2
     record-in-key-requires
     record-in-key-requires-2

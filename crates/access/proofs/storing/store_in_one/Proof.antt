@@ -15,14 +15,11 @@ lines-of-one-requires c κs = search needs
 enum-told : tie.Need-enum-told
 enum-told c = search needs
 
-cast-store-run : tie.Need-cast-store-run
-cast-store-run c = search needs
-
 store-run-requires : tie.Need-store-run-requires
-store-run-requires c κs = rw (c .before .before .before .before .before .part-at .ensures) (one-fits _ _ (c .before .before .before .before .before .before .before .before .before .before .args .keys .now) _ _ _ _ _ (c .before .before .before .before .before .before .before .before .before .before .pre .0) (c .before .before .before .before .before .before .before .before .before .before .pre .1) (rw (c .before .before .before .before .before .part-at .ensures) at (sym (c .before .before .before .before .lines-of-one .ensures) ∙ c .before .before .enum-told .given .1)))
+store-run-requires c κs = rw (c .before .before .before .before .part-at .ensures) (one-fits _ _ (c .before .before .before .before .before .before .before .before .before .args .keys .now) _ _ _ _ _ (c .before .before .before .before .before .before .before .before .before .pre .0) (c .before .before .before .before .before .before .before .before .before .pre .1) (rw (c .before .before .before .before .part-at .ensures) at (sym (c .before .before .before .lines-of-one .ensures) ∙ c .before .enum-told .given .1)))
 
 record-in-key-requires : tie.Need-record-in-key-requires
-record-in-key-requires c κs = rw (c .before .before .before .before .before .before .before .before .before .part-at .ensures) (one-keyed _ _ (c .before .before .before .before .before .before .before .before .before .before .before .before .before .before .args .keys .now) _ _ _ _ _ (c .before .before .before .before .before .before .before .before .before .before .before .before .before .before .pre .0) (c .before .before .before .before .before .before .before .before .before .before .before .before .before .before .pre .1) (rw (c .before .before .before .before .before .before .before .before .before .part-at .ensures) at (sym (c .before .before .before .before .before .before .before .before .lines-of-one .ensures) ∙ c .before .before .before .before .before .before .enum-told .given .1)))
+record-in-key-requires c κs = rw (c .before .before .before .before .before .before .before .before .part-at .ensures) (one-keyed _ _ (c .before .before .before .before .before .before .before .before .before .before .before .before .before .args .keys .now) _ _ _ _ _ (c .before .before .before .before .before .before .before .before .before .before .before .before .before .pre .0) (c .before .before .before .before .before .before .before .before .before .before .before .before .before .pre .1) (rw (c .before .before .before .before .before .before .before .before .part-at .ensures) at (sym (c .before .before .before .before .before .before .before .lines-of-one .ensures) ∙ c .before .before .before .before .before .enum-told .given .1)))
 
 enum-known-found : tie.Need-enum-known-found
 enum-known-found c = search needs
@@ -34,7 +31,7 @@ same-length-2 : tie.Need-same-length-2
 same-length-2 c = search needs
 
 returns : tie.Need-returns
-returns c = rw (c .before .before .record-in-key .ensures, c .before .before .before .before .before .before .store-run .ensures, c .before .before .before .before .before .before .before .before .before .before .before .before .part-at .ensures) (stored-in-one _ _ (c .before .before .before .before .before .before .before .before .before .before .before .before .before .before .before .before .before .args .keys .now) _ _ _ _ (c .before .before .before .before .before .before .before .before .before .before .before .before .before .before .before .before .before .pre .0) (c .before .before .before .before .before .before .before .before .before .before .before .before .before .before .before .before .before .pre .1) (rw (c .before .before .before .before .before .before .before .before .before .before .before .before .part-at .ensures) at (sym (c .before .before .before .before .before .before .before .before .before .before .before .lines-of-one .ensures) ∙ c .before .before .before .before .before .before .before .before .before .enum-told .given .1)))
+returns c = rw (c .before .before .record-in-key .ensures, c .before .before .before .before .before .before .store-run .ensures, c .before .before .before .before .before .before .before .before .before .before .before .part-at .ensures) (stored-in-one _ _ (c .before .before .before .before .before .before .before .before .before .before .before .before .before .before .before .before .args .keys .now) _ _ _ _ (c .before .before .before .before .before .before .before .before .before .before .before .before .before .before .before .before .pre .0) (c .before .before .before .before .before .before .before .before .before .before .before .before .before .before .before .before .pre .1) (rw (c .before .before .before .before .before .before .before .before .before .before .before .part-at .ensures) at (sym (c .before .before .before .before .before .before .before .before .before .before .lines-of-one .ensures) ∙ c .before .before .before .before .before .before .before .before .enum-told .given .1)))
 
 same-length-3 : tie.Need-same-length-3
 same-length-3 c = search needs
@@ -49,7 +46,6 @@ store-in-one-spec =
     part-at-requires
     lines-of-one-requires
     enum-told
-    cast-store-run
     store-run-requires
     record-in-key-requires
     enum-known-found

@@ -24,23 +24,17 @@ sub-rest c = search needs
 cast-rest : tie.Need-cast-rest
 cast-rest c = search needs
 
-cast-store-run : tie.Need-cast-store-run
-cast-store-run c = search needs
-
 store-run-requires : tie.Need-store-run-requires
-store-run-requires c κs = rw (c .before .before .before .before .before .before .before .part-at .ensures) (two-fit _ _ (c .before .before .before .before .before .before .before .before .before .before .before .before .args .keys .now) _ _ _ _ _ _ (c .before .before .before .before .before .before .before .before .before .before .before .before .pre .0) (c .before .before .before .before .before .before .before .before .before .before .before .before .pre .1) (rw (c .before .before .before .before .before .before .before .part-at .ensures, c .before .before .before .before .before .part-at2 .ensures) at (sym (c .before .before .before .before .lines-of-two .ensures) ∙ c .before .before .enum-told .given .1)) .0)
-
-cast-store-run-2 : tie.Need-cast-store-run-2
-cast-store-run-2 c = search needs
+store-run-requires c κs = rw (c .before .before .before .before .before .before .part-at .ensures) (two-fit _ _ (c .before .before .before .before .before .before .before .before .before .before .before .args .keys .now) _ _ _ _ _ _ (c .before .before .before .before .before .before .before .before .before .before .before .pre .0) (c .before .before .before .before .before .before .before .before .before .before .before .pre .1) (rw (c .before .before .before .before .before .before .part-at .ensures, c .before .before .before .before .part-at2 .ensures) at (sym (c .before .before .before .lines-of-two .ensures) ∙ c .before .enum-told .given .1)) .0)
 
 store-run-requires-2 : tie.Need-store-run-requires-2
-store-run-requires-2 c κs = rw (c .before .before .before .before .store-run .kept .0, c .before .before .before .before .before .before .before .before .before .before .part-at2 .ensures) (two-fit _ _ (c .before .before .before .before .before .before .before .before .before .before .before .before .before .before .before .before .before .args .keys .now) _ _ _ _ _ _ (c .before .before .before .before .before .before .before .before .before .before .before .before .before .before .before .before .before .pre .0) (c .before .before .before .before .before .before .before .before .before .before .before .before .before .before .before .before .before .pre .1) (rw (c .before .before .before .before .before .before .before .before .before .before .before .before .part-at .ensures, c .before .before .before .before .before .before .before .before .before .before .part-at2 .ensures) at (sym (c .before .before .before .before .before .before .before .before .before .lines-of-two .ensures) ∙ c .before .before .before .before .before .before .before .enum-told .given .1)) .1)
+store-run-requires-2 c κs = rw (c .before .before .before .store-run .kept .0, c .before .before .before .before .before .before .before .before .part-at2 .ensures) (two-fit _ _ (c .before .before .before .before .before .before .before .before .before .before .before .before .before .before .before .args .keys .now) _ _ _ _ _ _ (c .before .before .before .before .before .before .before .before .before .before .before .before .before .before .before .pre .0) (c .before .before .before .before .before .before .before .before .before .before .before .before .before .before .before .pre .1) (rw (c .before .before .before .before .before .before .before .before .before .before .part-at .ensures, c .before .before .before .before .before .before .before .before .part-at2 .ensures) at (sym (c .before .before .before .before .before .before .before .lines-of-two .ensures) ∙ c .before .before .before .before .before .enum-told .given .1)) .1)
 
 record-in-key-requires : tie.Need-record-in-key-requires
-record-in-key-requires c κs = rw (c .before .before .before .before .before .before .before .before .before .before .before .before .before .before .before .before .part-at .ensures) (two-keyed _ _ (c .before .before .before .before .before .before .before .before .before .before .before .before .before .before .before .before .before .before .before .before .before .args .keys .now) _ _ _ _ _ _ (c .before .before .before .before .before .before .before .before .before .before .before .before .before .before .before .before .before .before .before .before .before .pre .0) (c .before .before .before .before .before .before .before .before .before .before .before .before .before .before .before .before .before .before .before .before .before .pre .1) (rw (c .before .before .before .before .before .before .before .before .before .before .before .before .before .before .before .before .part-at .ensures, c .before .before .before .before .before .before .before .before .before .before .before .before .before .before .part-at2 .ensures) at (sym (c .before .before .before .before .before .before .before .before .before .before .before .before .before .lines-of-two .ensures) ∙ c .before .before .before .before .before .before .before .before .before .before .before .enum-told .given .1)) .0)
+record-in-key-requires c κs = rw (c .before .before .before .before .before .before .before .before .before .before .before .before .before .before .part-at .ensures) (two-keyed _ _ (c .before .before .before .before .before .before .before .before .before .before .before .before .before .before .before .before .before .before .before .args .keys .now) _ _ _ _ _ _ (c .before .before .before .before .before .before .before .before .before .before .before .before .before .before .before .before .before .before .before .pre .0) (c .before .before .before .before .before .before .before .before .before .before .before .before .before .before .before .before .before .before .before .pre .1) (rw (c .before .before .before .before .before .before .before .before .before .before .before .before .before .before .part-at .ensures, c .before .before .before .before .before .before .before .before .before .before .before .before .part-at2 .ensures) at (sym (c .before .before .before .before .before .before .before .before .before .before .before .lines-of-two .ensures) ∙ c .before .before .before .before .before .before .before .before .before .enum-told .given .1)) .0)
 
 record-in-key-requires-2 : tie.Need-record-in-key-requires-2
-record-in-key-requires-2 c κs = rw (c .before .before .before .record-in-key .kept .0, c .before .before .before .before .before .before .before .before .before .before .before .before .before .before .before .before .before .before .part-at2 .ensures) (two-keyed _ _ (c .before .before .before .before .before .before .before .before .before .before .before .before .before .before .before .before .before .before .before .before .before .before .before .before .before .args .keys .now) _ _ _ _ _ _ (c .before .before .before .before .before .before .before .before .before .before .before .before .before .before .before .before .before .before .before .before .before .before .before .before .before .pre .0) (c .before .before .before .before .before .before .before .before .before .before .before .before .before .before .before .before .before .before .before .before .before .before .before .before .before .pre .1) (rw (c .before .before .before .before .before .before .before .before .before .before .before .before .before .before .before .before .before .before .before .before .part-at .ensures, c .before .before .before .before .before .before .before .before .before .before .before .before .before .before .before .before .before .before .part-at2 .ensures) at (sym (c .before .before .before .before .before .before .before .before .before .before .before .before .before .before .before .before .before .lines-of-two .ensures) ∙ c .before .before .before .before .before .before .before .before .before .before .before .before .before .before .before .enum-told .given .1)) .1)
+record-in-key-requires-2 c κs = rw (c .before .before .before .record-in-key .kept .0, c .before .before .before .before .before .before .before .before .before .before .before .before .before .before .before .before .part-at2 .ensures) (two-keyed _ _ (c .before .before .before .before .before .before .before .before .before .before .before .before .before .before .before .before .before .before .before .before .before .before .before .args .keys .now) _ _ _ _ _ _ (c .before .before .before .before .before .before .before .before .before .before .before .before .before .before .before .before .before .before .before .before .before .before .before .pre .0) (c .before .before .before .before .before .before .before .before .before .before .before .before .before .before .before .before .before .before .before .before .before .before .before .pre .1) (rw (c .before .before .before .before .before .before .before .before .before .before .before .before .before .before .before .before .before .before .part-at .ensures, c .before .before .before .before .before .before .before .before .before .before .before .before .before .before .before .before .part-at2 .ensures) at (sym (c .before .before .before .before .before .before .before .before .before .before .before .before .before .before .before .lines-of-two .ensures) ∙ c .before .before .before .before .before .before .before .before .before .before .before .before .before .enum-told .given .1)) .1)
 
 enum-known-found : tie.Need-enum-known-found
 enum-known-found c = search needs
@@ -52,7 +46,7 @@ same-length-2 : tie.Need-same-length-2
 same-length-2 c = search needs
 
 returns : tie.Need-returns
-returns c = rw (c .before .before .record-in-key2 .ensures, c .before .before .before .before .before .before .record-in-key .ensures, c .before .before .before .before .before .before .before .before .before .before .store-run2 .ensures, c .before .before .before .before .before .before .before .before .before .before .before .before .before .before .before .store-run .ensures, c .before .before .before .before .before .before .before .before .before .before .before .before .before .before .before .before .before .before .before .before .before .before .before .part-at .ensures, c .before .before .before .before .before .before .before .before .before .before .before .before .before .before .before .before .before .before .before .before .before .part-at2 .ensures) (stored-in-two _ _ (c .before .before .before .before .before .before .before .before .before .before .before .before .before .before .before .before .before .before .before .before .before .before .before .before .before .before .before .before .args .keys .now) _ _ _ _ _ (c .before .before .before .before .before .before .before .before .before .before .before .before .before .before .before .before .before .before .before .before .before .before .before .before .before .before .before .before .pre .0) (c .before .before .before .before .before .before .before .before .before .before .before .before .before .before .before .before .before .before .before .before .before .before .before .before .before .before .before .before .pre .1) (rw (c .before .before .before .before .before .before .before .before .before .before .before .before .before .before .before .before .before .before .before .before .before .before .before .part-at .ensures, c .before .before .before .before .before .before .before .before .before .before .before .before .before .before .before .before .before .before .before .before .before .part-at2 .ensures) at (sym (c .before .before .before .before .before .before .before .before .before .before .before .before .before .before .before .before .before .before .before .before .lines-of-two .ensures) ∙ c .before .before .before .before .before .before .before .before .before .before .before .before .before .before .before .before .before .before .enum-told .given .1)))
+returns c = rw (c .before .before .record-in-key2 .ensures, c .before .before .before .before .before .before .record-in-key .ensures, c .before .before .before .before .before .before .before .before .before .before .store-run2 .ensures, c .before .before .before .before .before .before .before .before .before .before .before .before .before .before .store-run .ensures, c .before .before .before .before .before .before .before .before .before .before .before .before .before .before .before .before .before .before .before .before .before .part-at .ensures, c .before .before .before .before .before .before .before .before .before .before .before .before .before .before .before .before .before .before .before .part-at2 .ensures) (stored-in-two _ _ (c .before .before .before .before .before .before .before .before .before .before .before .before .before .before .before .before .before .before .before .before .before .before .before .before .before .before .args .keys .now) _ _ _ _ _ (c .before .before .before .before .before .before .before .before .before .before .before .before .before .before .before .before .before .before .before .before .before .before .before .before .before .before .pre .0) (c .before .before .before .before .before .before .before .before .before .before .before .before .before .before .before .before .before .before .before .before .before .before .before .before .before .before .pre .1) (rw (c .before .before .before .before .before .before .before .before .before .before .before .before .before .before .before .before .before .before .before .before .before .part-at .ensures, c .before .before .before .before .before .before .before .before .before .before .before .before .before .before .before .before .before .before .before .part-at2 .ensures) at (sym (c .before .before .before .before .before .before .before .before .before .before .before .before .before .before .before .before .before .before .lines-of-two .ensures) ∙ c .before .before .before .before .before .before .before .before .before .before .before .before .before .before .before .before .enum-told .given .1)))
 
 same-length-3 : tie.Need-same-length-3
 same-length-3 c = search needs
@@ -70,9 +64,7 @@ store-in-two-spec =
     enum-told
     sub-rest
     cast-rest
-    cast-store-run
     store-run-requires
-    cast-store-run-2
     store-run-requires-2
     record-in-key-requires
     record-in-key-requires-2

@@ -10,13 +10,19 @@ use Rattle.access.proofs.transfer.fetch_run.Statement.{statement}
 use Rattle.access.proofs.transfer.fetch_run.Tie as tie
 
 abbrev Inv-loop : tie.InvT-loop
-Inv-loop storage base real buffer₀ from n j₀ buffer j = (j ≤ n) × (buffer ≡ written buffer₀ (λ i. from + i) (λ i. getD storage (base + i) 0) j)
+Inv-loop storage buffer₀ from n base real j₀ buffer j = (j ≤ n) × (buffer ≡ written buffer₀ (λ i. from + i) (λ i. getD storage (base + i) 0) j)
 
 abbrev μ-loop : tie.MeasureT-loop
-μ-loop storage base real buffer₀ from n j₀ buffer j = n - j
+μ-loop storage buffer₀ from n base real j₀ buffer j = n - j
+
+cast-base : tie.Need-cast-base Inv-loop μ-loop
+cast-base c = omega arith
 
 sub-if1 : tie.Need-sub-if1 Inv-loop μ-loop
 sub-if1 c = omega arith
+
+cast-if1 : tie.Need-cast-if1 Inv-loop μ-loop
+cast-if1 c = omega arith
 
 returns : tie.Need-returns Inv-loop μ-loop
 returns c = absurd (omega arith)
@@ -58,10 +64,7 @@ loop-less c = omega arith
 loop-again : tie.Need-loop-again Inv-loop μ-loop
 loop-again c = (
   omega arith,
-  rw (
-    c .before .add24 .ensures,
-    run-place (c .before .before .before .before .before .before .before .args .base) (c .before .before .before .before .before .before .before .args .real) (c .before .before .before .before .before .before .before .args .n) (c .before .before .before .loop .j) (omega arith) (omega arith),
-  )
+  rw (c .before .add24 .ensures, run-place (c .before .before .before .before .before .before .before .before .args .part .absolute) (c .before .before .before .before .before .before .before .before .args .part .real) (c .before .before .before .before .before .before .before .before .args .n) (c .before .before .before .loop .j) (omega arith) (omega arith))
       (one-more _ _ _ _ _ (c .before .before .before .loop .inv .1) _ refl),
 )
 
@@ -77,7 +80,9 @@ fetch-run-spec =
     (tie.spec
     Inv-loop
     μ-loop
+    cast-base
     sub-if1
+    cast-if1
     returns
     loop-holds
     cast-add24

@@ -11,13 +11,19 @@ use Rattle.access.proofs.transfer.store_run.Statement.{statement}
 use Rattle.access.proofs.transfer.store_run.Tie as tie
 
 abbrev Inv-loop : tie.InvT-loop
-Inv-loop storage₀ base real bytes from n j₀ storage j = (j ≤ n) × (storage ≡ written storage₀ (λ i. base + i) (λ i. getD bytes (from + i) 0) j)
+Inv-loop storage₀ bytes from n base real j₀ storage j = (j ≤ n) × (storage ≡ written storage₀ (λ i. base + i) (λ i. getD bytes (from + i) 0) j)
 
 abbrev μ-loop : tie.MeasureT-loop
-μ-loop storage₀ base real bytes from n j₀ storage j = n - j
+μ-loop storage₀ bytes from n base real j₀ storage j = n - j
+
+cast-base : tie.Need-cast-base Inv-loop μ-loop
+cast-base c = omega arith
 
 sub-if1 : tie.Need-sub-if1 Inv-loop μ-loop
 sub-if1 c = omega arith
+
+cast-if1 : tie.Need-cast-if1 Inv-loop μ-loop
+cast-if1 c = omega arith
 
 returns : tie.Need-returns Inv-loop μ-loop
 returns c = absurd (omega arith)
@@ -59,7 +65,7 @@ loop-less c = omega arith
 loop-again : tie.Need-loop-again Inv-loop μ-loop
 loop-again c = (
   omega arith,
-  one-more _ _ _ _ _ (c .before .before .before .loop .inv .1) _ (rw (c .before .add24 .ensures) (run-place (c .before .before .before .before .before .before .before .args .base) (c .before .before .before .before .before .before .before .args .real) (c .before .before .before .before .before .before .before .args .n) (c .before .before .before .loop .j) (omega arith) (omega arith))),
+  one-more _ _ _ _ _ (c .before .before .before .loop .inv .1) _ (rw (c .before .add24 .ensures) (run-place (c .before .before .before .before .before .before .before .before .args .part .absolute) (c .before .before .before .before .before .before .before .before .args .part .real) (c .before .before .before .before .before .before .before .before .args .n) (c .before .before .before .loop .j) (omega arith) (omega arith))),
 )
 
 same-length : tie.Need-same-length Inv-loop μ-loop
@@ -74,7 +80,9 @@ store-run-spec =
     (tie.spec
     Inv-loop
     μ-loop
+    cast-base
     sub-if1
+    cast-if1
     returns
     loop-holds
     cast-add24

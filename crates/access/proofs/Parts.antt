@@ -84,44 +84,39 @@ module _ (s : Settings) (storage keys : List ℕ) (p : Processor) (start count :
   abbrev two : AccessKind → ℕ → Verdict
   two kind k = linesOfTwo m p kind (partAt s keys p start 0) k (partAt s keys p start k)
 
+  -- the keys, whichever way the bytes go
+  in-one : (kind : AccessKind) → Admitted s m (length keys) p kind start count b → count ≤ left s start → one kind ≡ Clear
+      → PerformedInOne s p kind start count storage keys buffer (Completed 0) (storageLeft kind storage p start count buffer) (marked kind keys 0) (bufferLeft kind storage p start count buffer)
+  in-one kind h l clear =
+      let known = one-passed s m keys p kind start count b h l clear in
+      rw (one-recorded s p start count (known .some) (known .short) kind keys l) (access-completed s storage keys p kind start count buffer clear)
+
+  in-two : (kind : AccessKind) (k : ℕ) → Admitted s m (length keys) p kind start count b → (k ≡ left s start) × (k < count) → two kind k ≡ Clear
+      → PerformedInTwo s p kind start count k storage keys buffer (Completed 0) (storageLeft kind storage p start count buffer) (marked kind (marked kind keys 0) k) (bufferLeft kind storage p start count buffer)
+  in-two kind k h l clear =
+      let known = two-passed s m keys p kind start count k b h l clear in
+      rw (l .0, two-recorded s p start count (known .some) (known .short) kind keys (rw (l .0) at (l .1)))
+      (access-completed s storage keys p kind start count buffer (rw (l .0) at clear))
+
+  -- and the bytes
   pub stored-in-one : Admitted s m (length keys) p Store start count b → count ≤ left s start → one Store ≡ Clear
       → PerformedInOne s p Store start count storage keys buffer (Completed 0) (stored storage 0 count) (marked Store keys 0) buffer
   unfolding bufferLeft
-  stored-in-one h l clear =
-      let known = one-passed s m keys p Store start count b h l clear in
-      rw (store-one s m p start count b known storage buffer l, one-recorded s p start count (known .some) (known .short) Store keys l)
-      (access-completed s storage keys p Store start count buffer clear)
+  stored-in-one h l clear = rw (store-one s m p start count b (one-passed s m keys p Store start count b h l clear) storage buffer l) (in-one Store h l clear)
 
   pub fetched-in-one : Admitted s m (length keys) p Fetch start count b → count ≤ left s start → one Fetch ≡ Clear
       → PerformedInOne s p Fetch start count storage keys buffer (Completed 0) storage (marked Fetch keys 0) (fetched buffer 0 count)
   unfolding storageLeft
-  fetched-in-one h l clear =
-      let known = one-passed s m keys p Fetch start count b h l clear in
-      rw (fetch-one s m p start count b known buffer storage l, one-recorded s p start count (known .some) (known .short) Fetch keys l)
-      (access-completed s storage keys p Fetch start count buffer clear)
+  fetched-in-one h l clear = rw (fetch-one s m p start count b (one-passed s m keys p Fetch start count b h l clear) buffer storage l) (in-one Fetch h l clear)
 
   pub stored-in-two : (k : ℕ) → Admitted s m (length keys) p Store start count b → (k ≡ left s start) × (k < count) → two Store k ≡ Clear
       → PerformedInTwo s p Store start count k storage keys buffer (Completed 0) (stored (stored storage 0 k) k (count - k)) (marked Store (marked Store keys 0) k) buffer
   unfolding bufferLeft
   stored-in-two k h l clear =
-      let known = two-passed s m keys p Store start count k b h l clear in
-      let past = more s m keys p Store start count k b h l clear in
-      rw (
-        l .0,
-        store-two s m p start count b known storage buffer past,
-        two-recorded s p start count (known .some) (known .short) Store keys past,
-      )
-      (access-completed s storage keys p Store start count buffer (rw (l .0) at clear))
+      rw (rw (← l .0) at (store-two s m p start count b (two-passed s m keys p Store start count k b h l clear) storage buffer (rw (l .0) at (l .1)))) (in-two Store k h l clear)
 
   pub fetched-in-two : (k : ℕ) → Admitted s m (length keys) p Fetch start count b → (k ≡ left s start) × (k < count) → two Fetch k ≡ Clear
       → PerformedInTwo s p Fetch start count k storage keys buffer (Completed 0) storage (marked Fetch (marked Fetch keys 0) k) (fetched (fetched buffer 0 k) k (count - k))
   unfolding storageLeft
   fetched-in-two k h l clear =
-      let known = two-passed s m keys p Fetch start count k b h l clear in
-      let past = more s m keys p Fetch start count k b h l clear in
-      rw (
-        l .0,
-        fetch-two s m p start count b known buffer storage past,
-        two-recorded s p start count (known .some) (known .short) Fetch keys past,
-      )
-      (access-completed s storage keys p Fetch start count buffer (rw (l .0) at clear))
+      rw (rw (← l .0) at (fetch-two s m p start count b (two-passed s m keys p Fetch start count k b h l clear) buffer storage (rw (l .0) at (l .1)))) (in-two Fetch k h l clear)

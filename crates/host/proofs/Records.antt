@@ -22,25 +22,15 @@ use Rattle.host.specs.Boundary.{bit, value, reservedZero, recordAt, pref
 abbrev joined : Bool → Bool → Bool → ℕ
 joined a b c = value a 1 + value b 2 + value c 4
 
-joined-small : (a b c : Bool) → joined a b c < 8
-joined-small true true true = omega arith
-joined-small true true false = omega arith
-joined-small true false true = omega arith
-joined-small true false false = omega arith
-joined-small false true true = omega arith
-joined-small false true false = omega arith
-joined-small false false true = omega arith
-joined-small false false false = omega arith
-
-joined-bits : (a b c : Bool) → (bit 1 (joined a b c) ≡ a) × (bit 2 (joined a b c) ≡ b) × (bit 4 (joined a b c) ≡ c)
-joined-bits true true true = (refl, refl, refl)
-joined-bits true true false = (refl, refl, refl)
-joined-bits true false true = (refl, refl, refl)
-joined-bits true false false = (refl, refl, refl)
-joined-bits false true true = (refl, refl, refl)
-joined-bits false true false = (refl, refl, refl)
-joined-bits false false true = (refl, refl, refl)
-joined-bits false false false = (refl, refl, refl)
+joined-back : (a b c : Bool) → (joined a b c < 8) × (bit 1 (joined a b c) ≡ a) × (bit 2 (joined a b c) ≡ b) × (bit 4 (joined a b c) ≡ c)
+joined-back true true true = (omega arith, refl, refl, refl)
+joined-back true true false = (omega arith, refl, refl, refl)
+joined-back true false true = (omega arith, refl, refl, refl)
+joined-back true false false = (omega arith, refl, refl, refl)
+joined-back false true true = (omega arith, refl, refl, refl)
+joined-back false true false = (omega arith, refl, refl, refl)
+joined-back false false true = (omega arith, refl, refl, refl)
+joined-back false false false = (omega arith, refl, refl, refl)
 
 -- a number below 2^32 from its four bytes
 four-bytes : (x : ℕ) → x < 4294967296 → x % 256 + x / 256 % 256 * 256 + x / 65536 % 256 * 65536 + x / 16777216 % 256 * 16777216 ≡ x
@@ -53,7 +43,7 @@ four-bytes x h =
 
 read-bytes : (bytes : List ℕ) (at : ℕ) (p : Processor) → p .prefix < 4294967296 → Holds bytes at p → recordAt bytes at ≡ p
 read-bytes bytes at p small e =
-    let bits = joined-bits (p .problem) (p .«low_protection») (p .«key_control») in
+    let back = joined-back (p .problem) (p .«low_protection») (p .«key_control») in
     rw (
       rw (add-zero at) at (e 0 (omega arith)),
       e 1 (omega arith),
@@ -63,10 +53,10 @@ read-bytes bytes at p small e =
       e 5 (omega arith),
       e 6 (omega arith),
       e 7 (omega arith),
-      lt-ltb _ _ (joined-small (p .problem) (p .«low_protection») (p .«key_control»)),
-      bits .0,
-      bits .1,
-      bits .2,
+      lt-ltb _ _ (back .0),
+      back .1,
+      back .2,
+      back .3,
       four-bytes (p .prefix) small,
     )
 

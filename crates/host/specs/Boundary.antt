@@ -107,7 +107,7 @@ placeIn answer = answer / 4294967296 % 65536
 abbrev pub wordIn : ℕ → ℕ
 wordIn answer = answer % 4294967296
 
--- the answer in one number, of which its number can be told
+-- the result is the answer in one number, and the answer's own number can be read from it
 abbrev pub Packs : ℕ → Answer → Type 0
 Packs result answer = (result ≡ packed (values answer)) × (numberIn result ≡ numberOf answer)
 

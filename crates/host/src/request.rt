@@ -8,6 +8,7 @@ use machine::answers::number_of;
 ghost use mathlib.Core.Path.{_≡_};
 ghost use Rattle.host.specs.Boundary.{requestOf, Packs};
 
+// An access with these operands.
 fn access_of(kind: AccessKind, start: u32, count: u32) -> Request
     ensures { λ r. ⌜ r ≡ Request.Access kind start count ⌝ }
 {

@@ -129,7 +129,7 @@ fn typed_batch<U: Unit>(machine: &mut Machine, case: &Case, count: usize) -> f64
     let mut wrong = 0_usize;
     let start = Instant::now();
     for request in case.requests.iter().cycle().take(count) {
-        let answer = U::request(
+        let answer = (U::REQUEST)(
             machine.settings,
             &mut machine.storage,
             &mut machine.keys,

@@ -354,6 +354,13 @@ impl Answer {
     }
 }
 
+/// Carries out one request for one processor: the settings, the storage, its keys, the
+/// records of both processors, the number of the processor that asks, the request and its
+/// buffer. A fetch writes the first bytes of the buffer, a store reads them; the other
+/// requests do not use it.
+pub type RequestFunction =
+    fn(Settings, &mut [u8], &mut [u8], &mut [Processor; 2], u32, &Request, &mut [u8]) -> Answer;
+
 /// An implementation of the storage unit.
 ///
 /// The proved unit, the reference and the plain implementation have it, so that
@@ -362,19 +369,6 @@ pub trait Unit {
     /// The name of the implementation, for messages.
     const NAME: &'static str;
 
-    /// Carries out one request for one processor.
-    ///
-    /// `storage` and `keys` are the storage and its keys, `processors` the two
-    /// records, `processor` the number of the processor that asks. A fetch writes
-    /// the first bytes of `buffer`, a store reads them; the other requests do not
-    /// use it.
-    fn request(
-        settings: Settings,
-        storage: &mut [u8],
-        keys: &mut [u8],
-        processors: &mut [Processor; 2],
-        processor: u32,
-        request: &Request,
-        buffer: &mut [u8],
-    ) -> Answer;
+    /// The function that carries out a request.
+    const REQUEST: RequestFunction;
 }

@@ -5,7 +5,7 @@
 
 use crate::{
     boundary, AccessKind, Answer, KeyInstruction, Number, PrefixInstruction, Processor, Request,
-    Settings, Unit,
+    RequestFunction, Settings, Unit,
 };
 
 const PAGE: usize = 4096;
@@ -45,7 +45,7 @@ fn unit_shift(settings: Settings) -> u32 {
 }
 
 /// Carries out one request for one processor; the parameters are those of
-/// [`Unit::request`].
+/// [`RequestFunction`].
 #[inline]
 pub fn request(
     settings: Settings,
@@ -365,19 +365,31 @@ pub struct Plain;
 
 impl Unit for Plain {
     const NAME: &'static str = "plain";
+    const REQUEST: RequestFunction = request;
+}
 
-    #[inline]
-    fn request(
-        settings: Settings,
-        storage: &mut [u8],
-        keys: &mut [u8],
-        processors: &mut [Processor; 2],
-        processor: u32,
-        request: &Request,
-        buffer: &mut [u8],
-    ) -> Answer {
-        self::request(
-            settings, storage, keys, processors, processor, request, buffer,
+/// Carries out one request as [`request`] does, through [`storage_unit_request_plain`].
+#[inline]
+pub fn request_behind_boundary(
+    settings: Settings,
+    storage: &mut [u8],
+    keys: &mut [u8],
+    processors: &mut [Processor; 2],
+    processor: u32,
+    request: &Request,
+    buffer: &mut [u8],
+) -> Answer {
+    // SAFETY: the function keeps to the bytes it is given.
+    unsafe {
+        boundary::call(
+            storage_unit_request_plain,
+            settings,
+            storage,
+            keys,
+            processors,
+            processor,
+            request,
+            buffer,
         )
     }
 }
@@ -388,29 +400,5 @@ pub struct PlainBehindBoundary;
 
 impl Unit for PlainBehindBoundary {
     const NAME: &'static str = "plain behind the C boundary";
-
-    #[inline]
-    fn request(
-        settings: Settings,
-        storage: &mut [u8],
-        keys: &mut [u8],
-        processors: &mut [Processor; 2],
-        processor: u32,
-        request: &Request,
-        buffer: &mut [u8],
-    ) -> Answer {
-        // SAFETY: the function keeps to the bytes it is given.
-        unsafe {
-            boundary::call(
-                storage_unit_request_plain,
-                settings,
-                storage,
-                keys,
-                processors,
-                processor,
-                request,
-                buffer,
-            )
-        }
-    }
+    const REQUEST: RequestFunction = request_behind_boundary;
 }

@@ -1,6 +1,6 @@
 //! The proved unit, called in the static library.
 
-use crate::{boundary, Answer, Processor, Request, Settings, Unit};
+use crate::{boundary, Answer, Processor, Request, RequestFunction, Settings, Unit};
 
 extern "C" {
     /// The C function of the static library.
@@ -93,19 +93,5 @@ pub struct Proved;
 
 impl Unit for Proved {
     const NAME: &'static str = "proved";
-
-    #[inline]
-    fn request(
-        settings: Settings,
-        storage: &mut [u8],
-        keys: &mut [u8],
-        processors: &mut [Processor; 2],
-        processor: u32,
-        request: &Request,
-        buffer: &mut [u8],
-    ) -> Answer {
-        self::request(
-            settings, storage, keys, processors, processor, request, buffer,
-        )
-    }
+    const REQUEST: RequestFunction = request;
 }

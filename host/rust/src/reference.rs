@@ -6,8 +6,8 @@
 //! document 01 and the manual, not to be fast.
 
 use crate::{
-    AccessKind, Answer, KeyInstruction, Number, PrefixInstruction, Processor, Request, Settings,
-    Unit,
+    AccessKind, Answer, KeyInstruction, Number, PrefixInstruction, Processor, Request,
+    RequestFunction, Settings, Unit,
 };
 
 /// The number of 24-bit addresses.
@@ -319,7 +319,7 @@ fn line_4(situation: &Situation) -> Option<u16> {
 }
 
 /// Carries out one request for one processor; the parameters are those of
-/// [`Unit::request`].
+/// [`RequestFunction`].
 pub fn request(
     settings: Settings,
     storage: &mut [u8],
@@ -486,18 +486,5 @@ pub struct Reference;
 
 impl Unit for Reference {
     const NAME: &'static str = "reference";
-
-    fn request(
-        settings: Settings,
-        storage: &mut [u8],
-        keys: &mut [u8],
-        processors: &mut [Processor; 2],
-        processor: u32,
-        request: &Request,
-        buffer: &mut [u8],
-    ) -> Answer {
-        self::request(
-            settings, storage, keys, processors, processor, request, buffer,
-        )
-    }
+    const REQUEST: RequestFunction = request;
 }

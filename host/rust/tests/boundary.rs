@@ -5,9 +5,9 @@ mod support;
 use std::ptr::null_mut;
 
 use storage_unit::boundary::*;
-use storage_unit::reference::Reference;
+use storage_unit::reference;
 use storage_unit::{
-    Answer, KeyInstruction, Number, PrefixInstruction, Processor, Request, Settings, Unit,
+    Answer, KeyInstruction, Number, PrefixInstruction, Processor, Request, Settings,
 };
 
 use support::{random_buffer, random_key, random_processor, random_request, Aim, Random};
@@ -428,7 +428,7 @@ fn expected_call(
         Ok(records) => (decode_processors(records), processor),
         Err(_) => ([Processor::default(); 2], 2),
     };
-    let answer = Reference::request(
+    let answer = reference::request(
         settings,
         &mut bytes.storage,
         &mut bytes.keys,

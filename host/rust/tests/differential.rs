@@ -450,7 +450,7 @@ struct Side {
 
 impl Side {
     fn ask<U: Unit>(&mut self, settings: Settings, asked: &Asked) -> Answer {
-        U::request(
+        (U::REQUEST)(
             settings,
             &mut self.storage[..asked.storage_length],
             &mut self.keys[..asked.keys_length],

@@ -105,7 +105,7 @@ impl Lent {
         request: &Request,
         buffer: &mut [u8],
     ) -> Answer {
-        U::request(
+        (U::REQUEST)(
             self.settings,
             &mut self.storage,
             &mut self.keys,

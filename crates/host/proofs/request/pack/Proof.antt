@@ -1,6 +1,6 @@
 -- `pack` puts number, place and word side by side. Assumes nothing.
 use native.Mathlib.Omega.{arith}
-use Rattle.machine.proofs.Requests.{refusal-bounds}
+use Rattle.machine.proofs.Requests.{number-of-reason}
 use borrow.Author.Needs.{needs}
 use Rattle.host.proofs.request.pack.Statement.{statement}
 use Rattle.host.proofs.request.pack.Tie as tie
@@ -21,7 +21,7 @@ cast-result-2 : tie.Need-cast-result-2
 cast-result-2 c = search needs
 
 mul-result : tie.Need-mul-result
-mul-result c = rw (c .number-of .ensures) (omega (arith, refusal-bounds (c .before .before .answer2 .given .0 .0)))
+mul-result c = rw (c .number-of .ensures) (omega (arith, number-of-reason (c .before .before .answer2 .given .0 .0) .1))
 
 cast-result-3 : tie.Need-cast-result-3
 cast-result-3 c = search needs
@@ -30,7 +30,7 @@ mul-result-2 : tie.Need-mul-result-2
 mul-result-2 c = search needs
 
 add-result : tie.Need-add-result
-add-result c = rw (c .number-of .ensures) (omega (arith, refusal-bounds (c .before .before .answer2 .given .0 .0)))
+add-result c = rw (c .number-of .ensures) (omega (arith, number-of-reason (c .before .before .answer2 .given .0 .0) .1))
 
 returns : tie.Need-returns
 returns c = rw (c .before .answer .given .1) (omega arith, omega arith)

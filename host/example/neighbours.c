@@ -24,8 +24,8 @@ struct machine {
 };
 
 /* Makes a request and prints its answer. */
-static void ask(struct machine *machine, uint32_t processor, uint32_t operation, uint32_t first,
-                uint32_t second, uint8_t *buffer, size_t buffer_length)
+static void ask(struct machine *machine, uint32_t processor_number, uint32_t operation,
+                uint32_t first, uint32_t second, uint8_t *buffer, size_t buffer_length)
 {
     static struct machine before;
     uint64_t answer;
@@ -37,7 +37,7 @@ static void ask(struct machine *machine, uint32_t processor, uint32_t operation,
                                   machine->keys,
                                   storage_unit_key_count(machine->settings, STORAGE_LENGTH),
                                   machine->records, STORAGE_UNIT_RECORDS_LENGTH,
-                                  processor, operation, first, second,
+                                  processor_number, operation, first, second,
                                   buffer, buffer_length);
     number = storage_unit_number(answer);
     if (number == STORAGE_UNIT_NUMBER_COMPLETED) {

@@ -5,8 +5,9 @@
  * to each call of storage_unit_request. A call takes one request of one processor (fetch, store,
  * one of the six key instructions, SET PREFIX or STORE PREFIX) and gives one answer.
  *
- * The function is in the static library libhost.a, for x86-64 Linux, which needs no other library.
- * What a call answers and leaves is defined in crates/host/specs/Boundary.antt, and proved.
+ * The function is in the static library libhost.a, for x86-64 Linux, which needs memmove from the C
+ * library and nothing else. What a call answers and leaves is defined in
+ * crates/host/specs/Boundary.antt, and proved.
  *
  * "Bit 0" of a register is the leftmost of 32, as in the manual, GA22-7000. The constants below are
  * plain values, to be used with & and |.
@@ -29,13 +30,14 @@ extern "C" {
 /*
  * ---- Operations, each with its operands `first` and `second`. An operand shown as - is ignored.
  *
- * Addresses are real and are prefixed. R2 of ISK and SSK designates a 2K block by bits 8-20 (hex
- * 00FFF800), and so does the address of RRB; R2 of ISKE, SSKE and RRBE a 4K block by bits 1-19 (hex
- * 7FFFF000), with 2K units both of its keys. The key in R1 is its lowest byte.
+ * The count of FETCH and STORE is the number of bytes, 1 to 256. Addresses are real and are
+ * prefixed. R2 of ISK and SSK designates a 2K block by bits 8-20 (hex 00FFF800), and so does the
+ * address of RRB; R2 of ISKE, SSKE and RRBE a 4K block by bits 1-19 (hex 7FFFF000), with 2K units
+ * both of its keys. The key in R1 is its lowest byte.
  */
 
-#define STORAGE_UNIT_FETCH        0u /* address, length: from storage to the buffer */
-#define STORAGE_UNIT_STORE        1u /* address, length: from the buffer to storage */
+#define STORAGE_UNIT_FETCH        0u /* address, count: from storage to the buffer */
+#define STORAGE_UNIT_STORE        1u /* address, count: from the buffer to storage */
 #define STORAGE_UNIT_ISK          2u /* R1, R2: the answer's word is the new R1 */
 #define STORAGE_UNIT_SSK          3u /* R1, R2 */
 #define STORAGE_UNIT_RRB          4u /* -, address: sets the condition code */
@@ -121,20 +123,22 @@ extern "C" {
 /*
  * storage_unit_request: one request of one processor.
  *
- * settings   STORAGE_UNIT_4K, STORAGE_UNIT_EXTENSIONS, both or 0. Another bit: 64, before all else.
- * storage    The bytes of absolute addresses 0 to storage_length - 1. The length is a multiple of
- *            4096 from 4096 to 16777216. Another length: 64.
- * keys       One byte for each unit of absolute addresses, storage_unit_key_count(settings,
- *            storage_length) bytes in all. Another length: 64.
- * records    The records of both processors, 16 bytes. Another length: 65.
- * processor  The number of the processor that asks, 0 or 1. Another number: 65. A wrong value in
- *            its own record, or a reserved bit that is on: 65. The other record may hold anything.
- * operation  STORAGE_UNIT_FETCH to STORAGE_UNIT_STORE_PREFIX. Another number: 66.
- * first      The operands, as listed at the operations. An access goes on at address 0 after
- * second     16777215.
- * buffer     A fetch writes its first bytes, a store reads them, up to the length of the access,
- *            and the rest stays as it is. A shorter buffer: 66. Other operations do not use it,
- *            and its length may be 0.
+ * settings          STORAGE_UNIT_4K, STORAGE_UNIT_EXTENSIONS, both or 0. Another bit: 64, before
+ *                   all else.
+ * storage           The bytes of absolute addresses 0 to storage_length - 1. The length is a
+ *                   multiple of 4096 from 4096 to 16777216. Another length: 64.
+ * keys              One byte for each unit of absolute addresses, storage_unit_key_count(settings,
+ *                   storage_length) bytes in all. Another length: 64.
+ * records           The records of both processors, 16 bytes. Another length: 65.
+ * processor_number  The number of the processor that asks, 0 or 1. Another number: 65. A wrong
+ *                   value in its own record, or a reserved bit that is on: 65. The other record
+ *                   may hold anything.
+ * operation         STORAGE_UNIT_FETCH to STORAGE_UNIT_STORE_PREFIX. Another number: 66.
+ * first             The operands, as listed at the operations. An access goes on at address 0
+ * second            after 16777215.
+ * buffer            A fetch writes its first bytes, a store reads them, as many as the count of
+ *                   the access, and the rest stays as it is. A shorter buffer: 66. Other
+ *                   operations do not use it, and its length may be 0.
  *
  * Returns number, place and word in one value, for storage_unit_number, storage_unit_place and
  * storage_unit_word to take apart. Test the number, not the value: a completed request with a word
@@ -157,7 +161,7 @@ uint64_t storage_unit_request(uint32_t settings,
                               uint8_t *storage, size_t storage_length,
                               uint8_t *keys, size_t keys_length,
                               uint8_t *records, size_t records_length,
-                              uint32_t processor,
+                              uint32_t processor_number,
                               uint32_t operation, uint32_t first, uint32_t second,
                               uint8_t *buffer, size_t buffer_length);
 
@@ -195,9 +199,9 @@ static inline size_t storage_unit_key_count(uint32_t settings, size_t storage_le
 }
 
 /* The record of processor 0 or 1. */
-static inline uint8_t *storage_unit_record(uint8_t *records, uint32_t processor)
+static inline uint8_t *storage_unit_record(uint8_t *records, uint32_t processor_number)
 {
-    return records + STORAGE_UNIT_RECORD_LENGTH * processor;
+    return records + STORAGE_UNIT_RECORD_LENGTH * processor_number;
 }
 
 /* Reading a field of a record. */

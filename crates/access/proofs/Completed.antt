@@ -1,156 +1,158 @@
--- An access that the table lets pass: its runs fit, and together they are the whole access; recording two units records all that it touches.
--- What it leaves is then what the verdict on it says.
+-- A completed access goes on span by span: its first f bytes and a span of n bytes after them are its first f + n bytes, in storage, keys and
+-- buffer. After its last byte it leaves what the step leaves. And a span of an access that the table lets pass fits storage and buffer.
 -- Assumes nothing.
 use Prim.Native.Nat.{ℕ, zero, suc, _+_, _-_, _<_, _≤_}
 use mathlib.Core.Path.{_≡_, refl, sym, ap, _∙_}
+use mathlib.Core.Bool.{false}
 use mathlib.Core.List.{List}
 use native.Mathlib.Omega.{arith}
-use native.Mathlib.Nat.{le-refl}
 use lib.ListN.{length, getD, set}
-use lib.Seq.{set-set}
 use Rattle.machine.specs.declared.Settings.{Settings}
 use Rattle.machine.specs.declared.Processor.{Processor}
 use Rattle.machine.specs.declared.AccessKind.{AccessKind}
 use Rattle.machine.specs.declared.AccessKind.the-variants.{Fetch, Store}
+use Rattle.machine.specs.declared.Request.{Request}
 use Rattle.machine.specs.declared.Request.the-variants.{Access}
-use Rattle.machine.specs.declared.Reason.{Reason}
 use Rattle.machine.specs.declared.Verdict.{Verdict}
-use Rattle.machine.specs.declared.Verdict.the-variants.{Clear, Stop}
-use Rattle.machine.specs.declared.Answer.the-variants.{Completed, Refused}
-use Rattle.machine.specs.Numbers.{unitOf, add24, written}
+use Rattle.machine.specs.declared.Verdict.the-variants.{Clear}
+use Rattle.machine.specs.Lists.{written}
+use Rattle.machine.specs.Numbers.{unitOf}
+use Rattle.machine.specs.Answers.{answerOf, stops}
 use Rattle.machine.specs.Prefixing.{byteAt}
 use Rattle.machine.specs.Protection.{recorded}
-use Rattle.machine.specs.Table.{plan}
-use Rattle.machine.specs.Step.{storageLeft, bufferLeft, keysRecorded, completed, performed}
-use Rattle.machine.proofs.Written.{written-after, written-once}
-use Rattle.machine.proofs.Plans.{clear-plan, Passed, access-passed, access-keyed}
-use Rattle.access.specs.ByUnit.{left}
-use Rattle.access.specs.Admitted.{Admitted, Performed}
-use Rattle.access.proofs.Checks.{linesByUnit, table-of-admitted}
-use Rattle.access.proofs.Moves.{one-run, two-runs}
-use Rattle.access.proofs.Runs.{Run, left-positive, run-first, run-second, real-step, byte-step, unit-same}
+use Rattle.machine.specs.Table.{beforeProtection, verdict}
+use Rattle.machine.specs.Step.{outcome, storageLeft, bufferLeft, keysRecorded, completed, step}
+use Rattle.machine.proofs.Written.{written-same, written-after, written-once}
+use Rattle.machine.proofs.Verdicts.{stops-not}
+use Rattle.machine.proofs.BeforeProtection.{table-clear, AccessCleared, access-cleared, access-keyed}
+use Rattle.machine.proofs.Requests.{completed-request}
+use Rattle.access.specs.declared.span.Span.{Span}
+use Rattle.access.specs.ByUnit.{spanAt}
+use Rattle.access.specs.Moving.{Fits, moved, storageMoved, bufferMoved, keyRecorded}
+use Rattle.access.proofs.Spans.{OneUnit, real-step, byte-step, unit-same}
 
--- n bytes from byte f on fit the m bytes of storage and the b bytes of a buffer, and do not wrap
-abbrev pub Fits : Processor → ℕ → ℕ → ℕ → ℕ → ℕ → Type 0
-Fits p start f n m b = (byteAt p start f + n ≤ m) × ((f + n ≤ b) × ((n ≤ 256) × (add24 start f + n ≤ 16777216)))
+-- byte i goes from index `from i` of the source to index `place i` of the target: n bytes after the first f, where both are consecutive
+module _ (place from : ℕ → ℕ) (target source : List ℕ) where
+  abbrev bytes : ℕ → List ℕ
+  bytes n = written target place (λ i. getD source (from i) 0) n
 
--- the runs that an access is moved in: one that ends in the first unit, or the first unit's part and the rest
-module _ (s : Settings) (m : ℕ) (p : Processor) (start count b : ℕ) (h : Passed m p start count b) where
-  run-fits : (f n : ℕ) → 0 < n → f + n ≤ count → Run s start f (f + n - 1) → Fits p start f n m b
-  run-fits f n pos l r =
-      (omega (arith, h .byte-inside (f + n - 1) (omega arith), byte-step s start f (f + n - 1) r p), (omega (arith, h), (omega (arith, h), omega (arith, real-step s start f (f + n - 1) r))))
+  moved-on : (f n : ℕ) → ((j : ℕ) → j < n → (place f + j ≡ place (f + j)) × (from f + j ≡ from (f + j)))
+      → moved (bytes f) (place f) source (from f) n ≡ bytes (f + n)
+  unfolding moved
+  moved-on f n steps =
+      written-same (bytes f) _ (λ j. place (f + j)) _ (λ j. getD source (from (f + j)) 0) n
+      (λ j l. (steps j l .0, ap (λ i. getD source i 0) (steps j l .1)))
+      ∙ written-after target place (λ i. getD source (from i) 0) f n
 
-  first-fits : (n : ℕ) → 0 < n → n ≤ count → n ≤ left s start → Fits p start 0 n m b
-  first-fits n pos l le = run-fits 0 n pos (omega arith) (run-first s start (0 + n - 1) (omega arith))
+-- the key of each byte's unit becomes `mark` of the unit: n bytes of one unit after the first f are one write
+module _ (mark unit : ℕ → ℕ) (keys : List ℕ) where
+  abbrev marked : ℕ → List ℕ
+  marked n = written keys unit (λ i. mark (unit i)) n
 
-  pub whole-fits : count ≤ left s start → Fits p start 0 count m b
-  whole-fits = first-fits count (h .some) (le-refl count)
+  marked-on : (f n : ℕ) → 0 < n → ((j : ℕ) → j < n → unit (f + j) ≡ unit f) → set (marked f) (unit f) (mark (unit f)) ≡ marked (f + n)
+  marked-on f zero some same = absurd (omega arith)
+  marked-on f (suc n) some same =
+      sym (written-once (marked f) (λ j. unit (f + j)) (λ j. mark (unit (f + j))) (unit f) (mark (unit f)) n (λ j l. (same j l, ap mark (same j l))))
+      ∙ written-after keys unit (λ i. mark (unit i)) f (suc n)
 
-  pub part-fits : left s start < count → Fits p start 0 (left s start) m b
-  part-fits l = first-fits (left s start) (left-positive s start) (omega arith) (le-refl (left s start))
+-- what `complete_span` does with storage, keys and buffer
+abbrev pub SpanCompleted : AccessKind → Span → ℕ → ℕ → List ℕ → List ℕ → List ℕ → List ℕ → List ℕ → List ℕ → Type 0
+SpanCompleted kind here f n storage keys buffer storage′ keys′ buffer′ =
+    (storage′ ≡ storageMoved kind storage (here .absolute) buffer f n)
+    × (buffer′ ≡ bufferMoved kind storage (here .absolute) buffer f n)
+    × (keys′ ≡ keyRecorded kind keys here)
 
-  pub rest-fits : left s start < count → Fits p start (left s start) (count - left s start) m b
-  rest-fits l =
-      run-fits (left s start) (count - left s start) (omega arith) (omega arith)
-      (run-second s start (left s start + (count - left s start) - 1) (omega arith) (omega (arith, h .short)))
+module _ (s : Settings) (storage keys : List ℕ) (p : Processor) (kind : AccessKind) (address : ℕ) (buffer : List ℕ) where
+  -- storage, keys and buffer after the first f bytes of the access
+  pub record After (f : ℕ) (storage′ keys′ buffer′ : List ℕ) : Type 0 where
+    pub storage-left : storage′ ≡ storageLeft kind storage p address f buffer
+    pub keys-left : keys′ ≡ keysRecorded s kind keys p address f
+    pub buffer-left : buffer′ ≡ bufferLeft kind storage p address f buffer
 
-  -- in those runs a store and a fetch write what the rules say
-  byte-agrees : (f j : ℕ) → Run s start f (f + j) → byteAt p start f + j ≡ byteAt p start (f + j)
-  byte-agrees f j r = omega (arith, byte-step s start f (f + j) r p)
+  pub at-start : After 0 storage keys buffer
+  unfolding storageLeft bufferLeft keysRecorded written
+  at-start = record { storage-left = stored kind; keys-left = refl; buffer-left = fetched kind }
+    where
+      stored : (kind : AccessKind) → storage ≡ storageLeft kind storage p address 0 buffer
+      stored Fetch = refl
+      stored Store = refl
 
-  module _ (xs ys : List ℕ) where
-    store-agrees : (f j : ℕ) → Run s start f (f + j) → (byteAt p start f + j ≡ byteAt p start (f + j)) × (getD ys (f + j) 0 ≡ getD ys (f + j) 0)
-    store-agrees f j r = (byte-agrees f j r, refl)
+      fetched : (kind : AccessKind) → buffer ≡ bufferLeft kind storage p address 0 buffer
+      fetched Fetch = refl
+      fetched Store = refl
 
-    fetch-agrees : (f j : ℕ) → Run s start f (f + j) → (f + j ≡ f + j) × (getD ys (byteAt p start f + j) 0 ≡ getD ys (byteAt p start (f + j)) 0)
-    fetch-agrees f j r = (refl, ap (λ a. getD ys a 0) (byte-agrees f j r))
+  module _ (f n : ℕ) (some : 0 < n) (one-unit : OneUnit s address f n) where
+    bytes-step : (j : ℕ) → j < n → byteAt p address f + j ≡ byteAt p address (f + j)
+    bytes-step j l = byte-step s address f j (one-unit j l) p
 
-    pub store-one : count ≤ left s start → written xs (λ j. byteAt p start 0 + j) (λ j. getD ys (0 + j) 0) count ≡ storageLeft Store xs p start count ys
-    unfolding storageLeft
-    store-one =
-        one-run s start count (h .short) (byteAt p start) (λ i. getD ys i 0) (λ f j. byteAt p start f + j) (λ f j. getD ys (f + j) 0) store-agrees xs count
+    storage-on : (kind : AccessKind)
+        → storageMoved kind (storageLeft kind storage p address f buffer) (byteAt p address f) (bufferLeft kind storage p address f buffer) f n
+        ≡ storageLeft kind storage p address (f + n) buffer
+    unfolding storageMoved storageLeft bufferLeft
+    storage-on Fetch = refl
+    storage-on Store = moved-on (byteAt p address) (λ i. i) storage buffer f n (λ j l. (bytes-step j l, refl))
 
-    pub store-two : left s start < count → written (written xs (λ j. byteAt p start 0 + j) (λ j. getD ys (0 + j) 0) (left s start)) (λ j. byteAt p start (left s start) + j) (λ j. getD ys (left s start + j) 0) (count - left s start) ≡ storageLeft Store xs p start count ys
-    unfolding storageLeft
-    store-two =
-        two-runs s start count (h .short) (byteAt p start) (λ i. getD ys i 0) (λ f j. byteAt p start f + j) (λ f j. getD ys (f + j) 0) store-agrees xs
+    buffer-on : (kind : AccessKind)
+        → bufferMoved kind (storageLeft kind storage p address f buffer) (byteAt p address f) (bufferLeft kind storage p address f buffer) f n
+        ≡ bufferLeft kind storage p address (f + n) buffer
+    unfolding bufferMoved storageLeft bufferLeft
+    buffer-on Fetch = moved-on (λ i. i) (byteAt p address) buffer storage f n (λ j l. (refl, bytes-step j l))
+    buffer-on Store = refl
 
-    pub fetch-one : count ≤ left s start → written xs (λ j. 0 + j) (λ j. getD ys (byteAt p start 0 + j) 0) count ≡ bufferLeft Fetch ys p start count xs
-    unfolding bufferLeft
-    fetch-one =
-        one-run s start count (h .short) (λ i. i) (λ i. getD ys (byteAt p start i) 0) (λ f j. f + j) (λ f j. getD ys (byteAt p start f + j) 0) fetch-agrees xs count
+    keys-on : keyRecorded kind (keysRecorded s kind keys p address f) (spanAt s keys p address f) ≡ keysRecorded s kind keys p address (f + n)
+    unfolding keysRecorded
+    keys-on =
+        marked-on (λ u. recorded kind (getD keys u 0)) (λ i. unitOf s (byteAt p address i)) keys f n some
+        (λ j l. unit-same s address f j (one-unit j l) p)
 
-    pub fetch-two : left s start < count → written (written xs (λ j. 0 + j) (λ j. getD ys (byteAt p start 0 + j) 0) (left s start)) (λ j. left s start + j) (λ j. getD ys (byteAt p start (left s start) + j) 0) (count - left s start) ≡ bufferLeft Fetch ys p start count xs
-    unfolding bufferLeft
-    fetch-two =
-        two-runs s start count (h .short) (λ i. i) (λ i. getD ys (byteAt p start i) 0) (λ f j. f + j) (λ f j. getD ys (byteAt p start f + j) 0) fetch-agrees xs
+    -- the span from byte f on, completed after the first f bytes
+    pub after-span : {here : Span} {xs ks ys storage′ keys′ buffer′ : List ℕ} → here ≡ spanAt s keys p address f → After f xs ks ys
+        → SpanCompleted kind here f n xs ks ys storage′ keys′ buffer′ → After (f + n) storage′ keys′ buffer′
+    after-span spanned so-far (storage-moved, buffer-moved, key-recorded) =
+        record {
+          storage-left = storage-moved ∙ rw (spanned, so-far .storage-left, so-far .buffer-left) (storage-on kind);
+          keys-left = key-recorded ∙ rw (spanned, so-far .keys-left) keys-on;
+          buffer-left = buffer-moved ∙ rw (spanned, so-far .storage-left, so-far .buffer-left) (buffer-on kind);
+        }
 
--- the units of an access are those of bytes 0 and k: what is written for each byte is written for the two
-module _ (f : ℕ → ℕ) (keys : List ℕ) (unit : ℕ → ℕ) where
-  abbrev value : ℕ → ℕ
-  value i = f (getD keys (unit i) 0)
+module _ (s : Settings) (storage keys : List ℕ) (p : Processor) (kind : AccessKind) (address count : ℕ) (buffer : List ℕ) where
+  abbrev request : Request
+  request = Access kind address count
 
-  first-marked : (k : ℕ) → ((i : ℕ) → i < k → unit i ≡ unit 0)
-      → set (set keys (unit 0) (value 0)) (unit k) (value k) ≡ set (written keys unit value k) (unit k) (value k)
-  unfolding written
-  first-marked zero before = set-set keys (unit 0) (value 0) (value 0)
-  first-marked (suc k) before =
-      rw (written-once keys unit value (unit 0) (value 0) k (λ i h. (before i h, ap (λ u. f (getD keys u 0)) (before i h))))
+  -- the verdict of the table on the access
+  abbrev pub table : Verdict
+  table = verdict s (length storage) keys p request (length buffer)
 
-  both-marked : (k n : ℕ) → k < n → ((i : ℕ) → i < k → unit i ≡ unit 0) → ((i : ℕ) → k ≤ i → i < n → unit i ≡ unit k)
-      → set (set keys (unit 0) (value 0)) (unit k) (value k) ≡ written keys unit value n
-  both-marked k n l before after =
-      first-marked k before
-      ∙ sym (written-once (written keys unit value k) (λ j. unit (k + j)) (λ j. value (k + j)) (unit k) (value k) (n - k - 1) (λ j h.
-      let e = after (k + j) (omega arith) (omega arith) in (e, ap (λ u. f (getD keys u 0)) e)))
-      ∙ written-after keys unit value k (suc (n - k - 1))
-      ∙ ap (written keys unit value) (omega arith)
+  -- the answer by v, and these lists, are what the step leaves
+  abbrev pub Performed : Verdict → List ℕ → List ℕ → List ℕ → Type 0
+  Performed v storage′ keys′ buffer′ = outcome (answerOf v 0) storage′ keys′ p buffer′ ≡ step s storage keys p request buffer
 
--- the keys of an access in one unit and of one in two
-module _ (s : Settings) (p : Processor) (start count : ℕ) (some : 0 < count) (short : count ≤ 256) (kind : AccessKind) (keys : List ℕ) where
-  abbrev unit : ℕ → ℕ
-  unit i = unitOf s (byteAt p start i)
+  -- after the last byte of an access that the table lets pass they are
+  pub finished : {v : Verdict} {storage′ keys′ buffer′ : List ℕ} → v ≡ table → stops v ≡ false
+      → After s storage keys p kind address buffer count storage′ keys′ buffer′ → Performed v storage′ keys′ buffer′
+  unfolding completed
+  finished {v} found clear left =
+      rw (stops-not v clear, left .storage-left, left .keys-left, left .buffer-left) (completed-request s storage keys p request buffer found clear)
 
-  abbrev mark : ℕ → ℕ
-  mark i = recorded kind (getD keys (unit i) 0)
+  module _ (clear : table ≡ Clear) where
+    before : beforeProtection s (length storage) (length keys) p request (length buffer) ≡ Clear
+    before = table-clear s (length storage) keys p request (length buffer) clear
 
-  same-mark : (f i : ℕ) → Run s start f i → (unit i ≡ unit f) × (mark i ≡ mark f)
-  same-mark f i r = let e = unit-same s start f i r p in (e, ap (λ u. recorded kind (getD keys u 0)) e)
+    pub known : AccessCleared (length storage) p address count (length buffer)
+    known = access-cleared s (length storage) (length keys) p kind address count (length buffer) before
 
-  pub one-recorded : count ≤ left s start → set keys (unit 0) (mark 0) ≡ keysRecorded s kind keys p start count
-  unfolding keysRecorded
-  one-recorded l =
-      sym (written-once keys unit mark (unit 0) (mark 0) (count - 1) (λ i k. same-mark 0 i (run-first s start i (omega arith))))
-      ∙ ap (written keys unit mark) (omega arith)
-
-  pub two-recorded : left s start < count
-      → set (set keys (unit 0) (mark 0)) (unit (left s start)) (mark (left s start)) ≡ keysRecorded s kind keys p start count
-  unfolding keysRecorded
-  two-recorded l =
-      both-marked (recorded kind) keys unit (left s start) count l
-      (λ i k. same-mark 0 i (run-first s start i k) .0)
-      (λ i k m. same-mark (left s start) i (run-second s start i k (omega arith)) .0)
-
--- what is known of an access that lines 64, 65 and 66 and the lines by unit let pass; m and b are the lengths of storage and buffer
-module _ (s : Settings) (m : ℕ) (keys : List ℕ) (p : Processor) (kind : AccessKind) (start count b : ℕ)
-    (h : Admitted s m (length keys) p kind start count b) (clear : linesByUnit s m keys p kind start count ≡ Clear) where
-  planned : plan s m (length keys) 0 p (Access kind start count) b ≡ Clear
-  planned = clear-plan s m keys 0 p (Access kind start count) b (sym (table-of-admitted s m keys 0 p kind start count b h refl) ∙ clear)
-
-  pub passed : Passed m p start count b
-  passed = access-passed s m (length keys) 0 p kind start count b planned
-
-  pub keyed : (i : ℕ) → i < count → unitOf s (byteAt p start i) < length keys
-  keyed = access-keyed s m (length keys) 0 p kind start count b planned
-
--- what is left by a verdict
-module _ (s : Settings) (storage keys : List ℕ) (p : Processor) (kind : AccessKind) (start count : ℕ) (buffer : List ℕ) {v : Verdict} where
-  pub access-completed : v ≡ Clear
-      → Performed v s p kind start count storage keys buffer (Completed 0) (storageLeft kind storage p start count buffer) (keysRecorded s kind keys p start count) (bufferLeft kind storage p start count buffer)
-  unfolding performed completed
-  access-completed clear ps n e = rw (clear, e)
-
-  pub access-refused : {reason : Reason} {place : ℕ} → v ≡ Stop reason place
-      → Performed v s p kind start count storage keys buffer (Refused reason place) storage keys buffer
-  unfolding performed
-  access-refused stop ps n e = rw stop
+    -- a span fits, and the key of its unit is there
+    pub span-fits : {here : Span} (f n : ℕ) → 0 < n → f + n ≤ count → OneUnit s address f n → here ≡ spanAt s keys p address f
+        → Fits (length storage) (here .absolute) (length buffer) f (here .real) n × (here .unit < length keys)
+    span-fits f n some inside one-unit spanned =
+        let last : f + (n - 1) < count = omega arith in
+        let same = one-unit (n - 1) (omega arith) in
+        rw spanned (
+          record {
+            at-fits = omega (arith, known .byte-inside (f + (n - 1)) last, byte-step s address f (n - 1) same p);
+            from-fits = omega (arith, known .buffered);
+            short = omega (arith, known .short);
+            unwrapped = omega (arith, real-step s address f (n - 1) same);
+          },
+          access-keyed s (length storage) (length keys) p kind address count (length buffer) before f (omega arith),
+        )

@@ -1,6 +1,6 @@
--- The laws of an access by unit.
-pub mod Runs
-pub mod Checks
+-- What the proofs about accesses share.
+pub mod Spans
 pub mod Moves
+pub mod Checks
 pub mod Completed
-pub mod Parts
+pub mod InUnits

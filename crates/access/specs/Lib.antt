@@ -1,3 +1,3 @@
 -- What the helpers of an access mean.
 pub mod ByUnit
-pub mod Admitted
+pub mod Moving

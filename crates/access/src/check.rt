@@ -1,6 +1,6 @@
 // The table of answers for an access. Lines 64, 65 and 66 test the request as a whole; lines 1, 2, 19 and 6 are for instructions only; lines
-// 5, 67 and 4 are tested at the first byte of each of its one or two parts.
-use crate::part::Part;
+// 5, 67 and 4 are tested at the first byte of each of its one or two spans.
+use crate::span::Span;
 use machine::AccessKind;
 use machine::Processor;
 use machine::Reason;
@@ -13,44 +13,46 @@ use machine::numbers::valid;
 use storage_key::forbidden;
 ghost use mathlib.Core.Path.{_≡_};
 ghost use Rattle.machine.specs.Table.{operandInvalid};
-ghost use Rattle.access.specs.ByUnit.{partOutside, partAbsoluteOutside, twoTests, firstLines, linesOfOne, linesOfTwo};
+ghost use Rattle.access.specs.ByUnit.{spanOutside, spanAbsoluteOutside, twoTests, firstLines, linesOfOne, linesOfTwo};
+
+// The first address that line 66 refuses.
+const OPERAND_LIMIT: u32 = 16777216;
 
 // Line 66.
-fn operand_invalid(kind: AccessKind, start: u32, count: u32, buffer_length: usize) -> bool
-    ensures { λ r. ⌜ r ≡ operandInvalid (Request.Access kind start count) «buffer_length» ⌝ }
+fn operand_invalid(kind: AccessKind, address: u32, count: u32, buffer_length: usize) -> bool
+    ensures { λ r. ⌜ r ≡ operandInvalid (Request.Access kind address count) «buffer_length» ⌝ }
 {
-    (count == 0) | (256 < count) | (16777216 <= start) | (buffer_length < count as usize)
+    (count == 0) | (256 < count) | (OPERAND_LIMIT <= address) | (buffer_length < count as usize)
 }
 
-// Lines 64, 65 and 66, p being the record of the processor with this number.
+// Lines 64, 65 and 66 for a processor with the record p.
 pub(crate) fn first_lines(
     settings: Settings,
     storage_length: usize,
     key_length: usize,
-    number: usize,
     p: Processor,
     kind: AccessKind,
-    start: u32,
+    address: u32,
     count: u32,
     buffer_length: usize,
 ) -> Verdict
-    ensures { λ r. ⌜ r ≡ firstLines settings «storage_length» «key_length» number p kind start count «buffer_length» ⌝ }
+    ensures { λ r. ⌜ r ≡ firstLines settings «storage_length» «key_length» p kind address count «buffer_length» ⌝ }
 {
-    let machine = valid(settings, storage_length, key_length, number, p);
-    let invalid = operand_invalid(kind, start, count, buffer_length);
+    let machine = valid(settings, storage_length, key_length, p);
+    let invalid = operand_invalid(kind, address, count, buffer_length);
     first_of(machine, refuse(Reason::Operand, invalid))
 }
 
-// Line 5 at the first byte of a part.
-fn outside(storage_length: usize, here: Part) -> bool
-    ensures { λ r. ⌜ r ≡ partOutside «storage_length» here ⌝ }
+// Line 5 at the first byte of a span.
+fn outside(storage_length: usize, here: Span) -> bool
+    ensures { λ r. ⌜ r ≡ spanOutside «storage_length» here ⌝ }
 {
     storage_length <= here.real as usize
 }
 
-// Line 67 at the first byte of a part.
-fn absolute_outside(storage_length: usize, here: Part) -> bool
-    ensures { λ r. ⌜ r ≡ partAbsoluteOutside «storage_length» here ⌝ }
+// Line 67 at the first byte of a span.
+fn absolute_outside(storage_length: usize, here: Span) -> bool
+    ensures { λ r. ⌜ r ≡ spanAbsoluteOutside «storage_length» here ⌝ }
 {
     ((here.real as usize) < storage_length) & (storage_length <= here.absolute as usize)
 }
@@ -60,7 +62,7 @@ pub(crate) fn lines_of_one(
     storage_length: usize,
     p: Processor,
     kind: AccessKind,
-    here: Part,
+    here: Span,
 ) -> Verdict
     ensures { λ r. ⌜ r ≡ linesOfOne «storage_length» p kind here ⌝ }
 {
@@ -103,9 +105,9 @@ pub(crate) fn lines_of_two(
     storage_length: usize,
     p: Processor,
     kind: AccessKind,
-    here: Part,
+    here: Span,
     k: u32,
-    there: Part,
+    there: Span,
 ) -> Verdict
     ensures { λ r. ⌜ r ≡ linesOfTwo «storage_length» p kind here k there ⌝ }
 {

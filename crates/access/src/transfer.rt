@@ -1,44 +1,82 @@
-// Moving the bytes of one part of an access.
-use crate::part::Part;
+// Completing one span of an access: moving its bytes, and recording the access in the key of its unit.
+use crate::span::Span;
+use machine::AccessKind;
 use prefixing::add24;
-ghost use Prim.Native.Nat.{_+_, _≤_};
+use storage_key::recorded;
+ghost use Prim.Native.Nat.{_+_, _-_, _<_};
 ghost use mathlib.Core.Path.{_≡_};
-ghost use lib.ListN.{getD, length};
-ghost use Rattle.machine.specs.Numbers.{written};
+ghost use lib.ListN.{length};
+ghost use Rattle.machine.specs.Numbers.{addressSpace, add24 as sum24};
+ghost use Rattle.access.specs.Moving.{Fits, moved, storageMoved, bufferMoved, keyRecorded};
 
-// A run of a store: n bytes from `from` on go to the first bytes of a part. Their real addresses are each made by the 24-bit addition; that
-// they do not wrap is known, and is tested so that the compiled loop can move many bytes a turn.
-pub(crate) fn store_run(storage: &mut [u8], part: Part, bytes: &[u8], from: usize, n: usize)
-    requires { ⌜ (part .absolute + n ≤ length (now storage)) × ((from + n ≤ length (now bytes)) × ((n ≤ 256) × (part .real + n ≤ 16777216))) ⌝ }
-    ensures { λ _. ⌜ now (storage .exit) ≡ written (now (storage .entry)) (λ j. part .absolute + j) (λ j. getD (now (bytes .entry)) (from + j) 0) n ⌝ }
+// The number of real addresses that an access can have: they have 24 bits.
+const ADDRESS_SPACE: u32 = 16777216;
+
+// How far byte j of a run that does not wrap is from the run's first byte: its real address is made by the 24-bit addition. The two tests never
+// hold. They stand beside the addition so that the compiler sees that the answer is j in every case, and no addition is left.
+fn offset(real: u32, j: usize) -> usize
+    requires { ⌜ (j < 256) × (real + j < addressSpace) ⌝ }
+    ensures { λ r. ⌜ (r ≡ sum24 real j - real) × (r ≡ j) ⌝ }
 {
-    let base = part.absolute as usize;
-    let real = part.real;
-    if 16777216 - n < real as usize {
-        return;
+    if 256 <= j {
+        return j;
+    }
+    if ADDRESS_SPACE <= real + j as u32 {
+        return j;
+    }
+    (add24(real, j as u32) - real) as usize
+}
+
+// A run of n bytes whose first has the real address `real`, in either direction. They all are held in a local array before one is written, so
+// that the compiler makes one memmove of the two loops.
+fn move_run(target: &mut [u8], at: usize, source: &[u8], from: usize, real: u32, n: usize)
+    requires { ⌜ Fits (length (now target)) at (length (now source)) from real n ⌝ }
+    ensures { λ _. ⌜ now (target .exit) ≡ moved (now (target .entry)) at (now (source .entry)) from n ⌝ }
+{
+    let mut held = [0u8; 256];
+    let mut i = 0;
+    while i < n {
+        held[i] = source[from + offset(real, i)];
+        i += 1;
     }
     let mut j = 0;
     while j < n {
-        let offset = add24(real, j as u32) - real;
-        storage[base + offset as usize] = bytes[from + j];
+        target[at + offset(real, j)] = held[j];
         j += 1;
     }
 }
 
-// A run of a fetch: the first n bytes of a part go to the buffer from `from` on. Their real addresses are as in `store_run`.
-pub(crate) fn fetch_run(storage: &[u8], part: Part, buffer: &mut [u8], from: usize, n: usize)
-    requires { ⌜ (part .absolute + n ≤ length (now storage)) × ((from + n ≤ length (now buffer)) × ((n ≤ 256) × (part .real + n ≤ 16777216))) ⌝ }
-    ensures { λ _. ⌜ now (buffer .exit) ≡ written (now (buffer .entry)) (λ j. from + j) (λ j. getD (now (storage .entry)) (part .absolute + j) 0) n ⌝ }
+// Moves the first n bytes of a span: a store from the buffer into storage, a fetch from storage into the buffer; in the buffer from `from` on.
+fn move_span(storage: &mut [u8], kind: AccessKind, here: Span, buffer: &mut [u8], from: u32, n: u32)
+    requires { ⌜ Fits (length (now storage)) (here .absolute) (length (now buffer)) from (here .real) n ⌝ }
+    ensures { λ _. ⌜ (now (storage .exit) ≡ storageMoved kind (now (storage .entry)) (here .absolute) (now (buffer .entry)) from n)
+        × (now (buffer .exit) ≡ bufferMoved kind (now (storage .entry)) (here .absolute) (now (buffer .entry)) from n) ⌝ }
 {
-    let base = part.absolute as usize;
-    let real = part.real;
-    if 16777216 - n < real as usize {
-        return;
+    let at = here.absolute as usize;
+    let from = from as usize;
+    let n = n as usize;
+    match kind {
+        AccessKind::Fetch => move_run(buffer, from, &storage[..], at, here.real, n),
+        AccessKind::Store => move_run(storage, at, &buffer[..], from, here.real, n),
     }
-    let mut j = 0;
-    while j < n {
-        let offset = add24(real, j as u32) - real;
-        buffer[from + j] = storage[base + offset as usize];
-        j += 1;
-    }
+}
+
+// Moves the first n bytes of a span and records the access in the key of its unit.
+pub(crate) fn complete_span(
+    storage: &mut [u8],
+    keys: &mut [u8],
+    kind: AccessKind,
+    here: Span,
+    buffer: &mut [u8],
+    from: u32,
+    n: u32,
+)
+    requires { ⌜ Fits (length (now storage)) (here .absolute) (length (now buffer)) from (here .real) n × (here .unit < length (now keys)) ⌝ }
+    ensures { λ _. ⌜ (now (storage .exit) ≡ storageMoved kind (now (storage .entry)) (here .absolute) (now (buffer .entry)) from n)
+        × (now (buffer .exit) ≡ bufferMoved kind (now (storage .entry)) (here .absolute) (now (buffer .entry)) from n)
+        × (now (keys .exit) ≡ keyRecorded kind (now (keys .entry)) here) ⌝ }
+{
+    move_span(storage, kind, here, buffer, from, n);
+    let unit = here.unit;
+    keys[unit] = recorded(kind, here.key);
 }

@@ -1,15 +1,22 @@
--- An answer is read back from its packed number; and a fact for the operation numbers past the last. Assumes nothing.
-use Prim.Native.Nat.{ℕ, suc, _%_, _<_, _≤_}
-use mathlib.Core.Path.{_≡_}
+-- An answer is read back from its packed number; operation numbers past the last. Assumes nothing.
+use Prim.Native.Nat.{ℕ, _+_, _%_, _<_, _≤_}
+use mathlib.Core.Path.{_≡_, sym}
 use native.Mathlib.Omega.{arith}
+use lib.ListN.{List·getD-eq-default}
+use Rattle.machine.specs.declared.AccessKind.the-variants.{Fetch}
+use Rattle.machine.specs.declared.Request.the-variants.{Access}
 use Rattle.machine.specs.Answers.{Values}
-use Rattle.host.specs.Boundary.{packed, numberIn, placeIn, wordIn}
+use Rattle.host.specs.Boundary.{requests, requestOf, packed, numberIn, placeIn, wordIn}
 
 -- number, place and word, where the word has 32 bits; of the place, sixteen bits
 pub answer-is-read : (v : Values) → v .word < 4294967296
     → (numberIn (packed v) ≡ v .number) × (placeIn (packed v) ≡ v .place % 65536) × (wordIn (packed v) ≡ v .word)
 answer-is-read v w = (omega arith, omega arith, omega arith)
 
--- a number that is not below n and is not n is above it
-pub above : {n m : ℕ} → n ≤ m → (m ≡ n → ⊥) → suc n ≤ m
-above h d = omega arith
+-- a number that is at least n and none of the five from n on
+pub five-more : (n m : ℕ) → n ≤ m → (m ≡ n → ⊥) → (m ≡ n + 1 → ⊥) → (m ≡ n + 2 → ⊥) → (m ≡ n + 3 → ⊥) → (m ≡ n + 4 → ⊥) → n + 5 ≤ m
+five-more n m h a b c d e = omega arith
+
+-- an operation number past the last stands for an access of length 0
+pub past-last : (operation a b : ℕ) → 10 ≤ operation → Access Fetch 0 0 ≡ requestOf operation a b
+past-last operation a b h = sym (List·getD-eq-default (requests a b) (Access Fetch 0 0) h)

@@ -2,3 +2,4 @@
 pub mod Laws
 pub mod Calls
 pub mod Records
+pub mod PairCalls

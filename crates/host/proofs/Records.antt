@@ -5,18 +5,21 @@ use Prim.Native.Nat.{ℕ, zero, suc, _+_, _*_, _/_, _%_, _<_, _≤_}
 use mathlib.Core.Path.{_≡_, refl, sym, ap, _∙_}
 use mathlib.Core.Bool.{Bool, true, false, cond}
 use mathlib.Core.List.{List, [], _∷_}
+use native.Mathlib.Decide.{ℕ-discrete}
 use native.Mathlib.Omega.{arith}
 use native.Mathlib.Nat.{add-zero}
 use lib.ListN.{length, getD, set}
 use lib.Seq.{getD-append-add, getD-set-other, set-getD, set-comm}
 use lib.Dec.{eqb, ltb}
-use borrow.Author.Tests.{lt-ltb, ltb-true, leb-true, eqb-true}
+use borrow.Author.Tests.{lt-ltb, ltb-true, leb-true, eqb-true, eq-eqb, ne-eqb}
 use Rattle.machine.specs.declared.Processor.{Processor}
-use Rattle.machine.specs.Numbers.{recordValid, written}
-use Rattle.machine.proofs.Written.{written-there}
+use Rattle.machine.specs.Lists.{written}
+use Rattle.machine.specs.Numbers.{recordValid}
+use Rattle.machine.specs.Step.{withCode, withPrefix}
+use Rattle.machine.proofs.Written.{written-there, written-back}
 use Rattle.machine.proofs.Verdicts.{both}
-use Rattle.machine.proofs.Requests.{Kept}
 use Rattle.host.specs.Boundary.{bit, value, reservedZero, recordAt, prefixBytes, recordBytes, Holds}
+use Rattle.host.specs.Writing.{codePut, prefixPut, recordPut}
 
 -- the three control bits in one number, and back
 abbrev joined : Bool → Bool → Bool → ℕ
@@ -65,7 +68,9 @@ pub written-record-is-read : (bytes : List ℕ) (at : ℕ) (p : Processor) → l
     → recordAt (written bytes (λ i. at + i) (λ i. getD (recordBytes p) i 0) 8) at ≡ p
 written-record-is-read bytes at p l h small =
     read-bytes (written bytes (λ i. at + i) (λ i. getD (recordBytes p) i 0) 8) at p small
-    (λ i k. written-there bytes (λ j. at + j) (λ j. getD (recordBytes p) j 0) 8 i k (omega arith) (λ j m e. let q : j ≡ i = omega arith in ap (λ k. getD (recordBytes p) k 0) q))
+    (λ i k.
+    written-there bytes (λ j. at + j) (λ j. getD (recordBytes p) j 0) 8 i k (omega arith)
+    (λ j m e. let q : j ≡ i = omega arith in ap (λ k. getD (recordBytes p) k 0) q))
 
 -- the value of a bit, and a number below 8 from its three bits
 value-of-bit : (x v : ℕ) → x < 2 → value (eqb x 1) v ≡ x * v
@@ -123,14 +128,30 @@ valid-record-is-written bytes at storageLength byte valid =
     zeros false k h = absurd (omega arith)
 
 -- Over the bytes of p, condition code and prefix are all that has to be written of q, which is p but for these.
-module _ (bytes : List ℕ) (at : ℕ) (p q : Processor) (holds : Holds bytes at p) (kept : Kept p q) where
-  pub prefix-held : (i : ℕ) → i < 4 → getD (set bytes (at + 2) (q .code)) (at + (4 + i)) 0 ≡ getD (prefixBytes (p .prefix)) i 0
+module _ (bytes : List ℕ) (at : ℕ) (p q : Processor) (holds : Holds bytes at p) (kept : q ≡ withPrefix (withCode p (q .code)) (q .prefix)) where
+  code-put : codePut bytes at (p .code) (q .code) ≡ set bytes (at + 2) (q .code)
+  code-put = go (ℕ-discrete (p .code) (q .code))
+    where
+      go : Dec (p .code ≡ q .code) → codePut bytes at (p .code) (q .code) ≡ set bytes (at + 2) (q .code)
+      go (yes e) = rw (eq-eqb _ _ e, ← e, ← holds 2 (omega arith)) (sym (set-getD bytes (at + 2) 0))
+      go (no d) = rw (ne-eqb _ _ d)
+
+  prefix-held : (i : ℕ) → i < 4 → getD (set bytes (at + 2) (q .code)) (at + (4 + i)) 0 ≡ getD (prefixBytes (p .prefix)) i 0
   prefix-held i h =
       getD-set-other bytes (at + 2) (at + (4 + i)) (q .code) 0 (λ e. omega arith)
       ∙ holds (4 + i) (omega arith)
       ∙ getD-append-add (p .key ∷ joined (p .problem) (p .«low_protection») (p .«key_control») ∷ p .code ∷ 0 ∷ []) (prefixBytes (p .prefix)) i 0
 
-  pub code-and-prefix-written : written (set bytes (at + 2) (q .code)) (λ i. at + (4 + i)) (λ i. getD (prefixBytes (q .prefix)) i 0) 4
+  prefix-put : prefixPut (set bytes (at + 2) (q .code)) at (p .prefix) (q .prefix)
+      ≡ written (set bytes (at + 2) (q .code)) (λ i. at + (4 + i)) (λ i. getD (prefixBytes (q .prefix)) i 0) 4
+  prefix-put = go (ℕ-discrete (p .prefix) (q .prefix))
+    where
+      go : Dec (p .prefix ≡ q .prefix) → prefixPut (set bytes (at + 2) (q .code)) at (p .prefix) (q .prefix)
+          ≡ written (set bytes (at + 2) (q .code)) (λ i. at + (4 + i)) (λ i. getD (prefixBytes (q .prefix)) i 0) 4
+      go (yes e) = rw (eq-eqb _ _ e) (sym (written-back _ _ _ 4 (λ i h. prefix-held i h ∙ ap (λ x. getD (prefixBytes x) i 0) e)))
+      go (no d) = rw (ne-eqb _ _ d)
+
+  code-and-prefix-written : written (set bytes (at + 2) (q .code)) (λ i. at + (4 + i)) (λ i. getD (prefixBytes (q .prefix)) i 0) 4
       ≡ written bytes (λ i. at + i) (λ i. getD (recordBytes q) i 0) 8
   unfolding written
   code-and-prefix-written =
@@ -143,3 +164,10 @@ module _ (bytes : List ℕ) (at : ℕ) (p q : Processor) (holds : Holds bytes at
     where
       back : (i : ℕ) → i < 8 → getD (recordBytes q) i 0 ≡ getD (recordBytes p) i 0 → set bytes (at + i) (getD (recordBytes q) i 0) ≡ bytes
       back i h same = rw (same ∙ sym (holds i h)) (set-getD bytes (at + i) 0)
+
+  pub record-put : recordPut bytes at p q ≡ written bytes (λ i. at + i) (λ i. getD (recordBytes q) i 0) 8
+  record-put = rw (code-put, prefix-put) code-and-prefix-written
+
+-- a record over itself: nothing is written
+pub same-put : (bytes : List ℕ) (at : ℕ) (p : Processor) → recordPut bytes at p p ≡ bytes
+same-put bytes at p = rw (eq-eqb (p .code) _ refl, eq-eqb (p .prefix) _ refl)

@@ -14,11 +14,13 @@ use Rattle.machine.specs.declared.AccessKind.the-variants.{Fetch, Store}
 use Rattle.machine.specs.declared.KeyInstruction.the-variants.{Isk, Ssk, Rrb, Iske, Sske, Rrbe}
 use Rattle.machine.specs.declared.PrefixInstruction.the-variants.{SetPrefix, StorePrefix}
 use Rattle.machine.specs.declared.Answer.{Answer}
-use Rattle.machine.specs.declared.Answer.the-variants.{Refused}
 use Rattle.machine.specs.declared.Reason.the-variants.{Configuration}
-use Rattle.machine.specs.Numbers.{own, written}
-use Rattle.machine.specs.Answers.{numberOf, Values, values}
+use Rattle.machine.specs.declared.Verdict.{Verdict}
+use Rattle.machine.specs.declared.Verdict.the-variants.{Stop}
+use Rattle.machine.specs.Lists.{written}
+use Rattle.machine.specs.Answers.{numberOf, Values, values, answerOf}
 use Rattle.machine.specs.Step.{Outcome, step}
+use Rattle.machine.specs.Pair.{withoutRecord}
 use Rattle.machine.specs.Conditions.{numbers, isIn}
 
 -- a bit with the value v in a number
@@ -66,14 +68,6 @@ recordBytes p =
 abbrev pub Holds : List ℕ → ℕ → Processor → Type 0
 Holds bytes at p = (i : ℕ) → i < 8 → getD bytes (at + i) 0 ≡ getD (recordBytes p) i 0
 
--- the pair of records, processor 0's first
-abbrev pub pairOf : List ℕ → List Processor
-pairOf bytes = recordAt bytes 0 ∷ recordAt bytes 8 ∷ []
-
--- where the number is not 0 or 1, or there aren't sixteen bytes of records, it is taken for 2, which line 65 refuses
-abbrev pub processorOf : List ℕ → ℕ → ℕ
-processorOf bytes n = cond (eqb (length bytes) 16 && ltb n 2) n 2
-
 -- the requests with operands a and b, by the number of the operation
 abbrev pub requests : ℕ → ℕ → List Request
 requests a b =
@@ -112,31 +106,44 @@ abbrev pub Packs : ℕ → Answer → Type 0
 Packs result answer = (result ≡ packed (values answer)) × (numberIn result ≡ numberOf answer)
 
 -- what a call leaves: its answer, storage, key array, the bytes of the records, its buffer
-pub record Left : Type 0 where
+pub record CallOutcome : Type 0 where
   pub answer : ℕ
   pub storage : List ℕ
   pub keys : List ℕ
   pub records : List ℕ
   pub buffer : List ℕ
 
-abbrev pub left : ℕ → List ℕ → List ℕ → List ℕ → List ℕ → Left
-left answer storage keys records buffer = record { answer = answer; storage = storage; keys = keys; records = records; buffer = buffer }
+abbrev pub callOutcome : ℕ → List ℕ → List ℕ → List ℕ → List ℕ → CallOutcome
+callOutcome answer storage keys records buffer =
+    record { answer = answer; storage = storage; keys = keys; records = records; buffer = buffer }
 
--- after a completed request the eight bytes of its own processor's record are those of the record that the step leaves; no other byte of the
--- records changes
-unfoldable pub recordsLeft : ℕ → List ℕ → ℕ → List Processor → List ℕ
-recordsLeft number records n ps =
-    cond (eqb number 0) (written records (λ i. n * 8 + i) (λ i. getD (recordBytes (own ps n)) i 0) 8) records
+-- after a completed request the eight bytes from `at` on are those of the record that the step leaves; no other byte of the records changes
+unfoldable pub recordsLeft : ℕ → List ℕ → ℕ → Processor → List ℕ
+recordsLeft number records at p = cond (eqb number 0) (written records (λ i. at + i) (λ i. getD (recordBytes p) i 0) 8) records
 
-abbrev pub leftBy : List ℕ → ℕ → Outcome → Left
-leftBy records n o = left (packed (o .answer)) (o .storage) (o .keys) (recordsLeft (o .answer .number) records n (o .processors)) (o .buffer)
+-- a request of the processor whose record stands from `at` on
+abbrev pub callServed : List ℕ → ℕ → Outcome → CallOutcome
+callServed records at o =
+    callOutcome (packed (o .answer)) (o .storage) (o .keys) (recordsLeft (o .answer .number) records at (o .processor)) (o .buffer)
 
--- the call: settings with another bit on are refused by line 64; else it is the step
-unfoldable pub called : ℕ → List ℕ → List ℕ → List ℕ → ℕ → ℕ → ℕ → ℕ → List ℕ → Left
+-- a refusal changes nothing
+abbrev pub callRefused : Verdict → List ℕ → List ℕ → List ℕ → List ℕ → CallOutcome
+callRefused v storage keys records buffer = callOutcome (packed (values (answerOf v 0))) storage keys records buffer
+
+-- a call with these settings: the step by the record of the processor, eight bytes for each. Where the number is not 0 or 1, or there aren't
+-- sixteen bytes of records, there is no record
+unfoldable pub calledWith : Settings → List ℕ → List ℕ → List ℕ → ℕ → Request → List ℕ → CallOutcome
+calledWith s storage keys records n r buffer =
+    cond (eqb (length records) 16 && ltb n 2)
+    (callServed records (n * 8) (step s storage keys (recordAt records (n * 8)) r buffer))
+    (callRefused (withoutRecord s (length storage) (length keys)) storage keys records buffer)
+
+-- the call: settings with another bit on are refused by line 64
+unfoldable pub called : ℕ → List ℕ → List ℕ → List ℕ → ℕ → ℕ → ℕ → ℕ → List ℕ → CallOutcome
 called settings storage keys records n operation a b buffer =
     cond (ltb settings 4)
-    (leftBy records (processorOf records n) (step (settingsOf settings) storage keys (pairOf records) (processorOf records n) (requestOf operation a b) buffer))
-    (left (packed (values (Refused Configuration 0))) storage keys records buffer)
+    (calledWith (settingsOf settings) storage keys records n (requestOf operation a b) buffer)
+    (callRefused (Stop Configuration 0) storage keys records buffer)
 
 -- condition 1 of a call: it ends with one answer of the table, and one that is not completed changes nothing lent
 pub record CallCondition1 (answer : ℕ) (storage keys records buffer storage′ keys′ records′ buffer′ : List ℕ) : Type 0 where

@@ -1,2 +1,4 @@
 -- What the boundary means: numbers and bytes as settings, records, requests and answers.
 pub mod Boundary
+-- How the code writes a record
+pub mod Writing

@@ -1,13 +1,12 @@
 // Settings and processor records as numbers and bytes.
 use machine::Processor;
 use machine::Settings;
-ghost use Prim.Native.Nat.{ℕ, _+_, _*_, _≤_, _<_};
+ghost use Prim.Native.Nat.{_+_, _*_, _≤_};
 ghost use mathlib.Core.Path.{_≡_};
 ghost use mathlib.Core.Bool.{cond};
-ghost use lib.ListN.{length, getD, set};
-ghost use Rattle.machine.specs.Numbers.{written};
-ghost use Rattle.machine.proofs.Requests.{Kept};
-ghost use Rattle.host.specs.Boundary.{settingsOf, recordAt, prefixBytes, recordBytes, Holds};
+ghost use lib.ListN.{length};
+ghost use Rattle.host.specs.Boundary.{settingsOf, recordAt};
+ghost use Rattle.host.specs.Writing.{codePut, prefixPut, recordPut};
 
 // The settings in a number: 1 the 4K facility, 2 the extensions.
 pub(crate) fn settings_of(word: u32) -> Settings
@@ -53,8 +52,8 @@ pub(crate) fn record_at(bytes: &[u8], at: usize) -> Processor
 
 // Writes the condition code where it has changed.
 fn put_code(bytes: &mut [u8], at: usize, before: u8, after: u8)
-    requires { ⌜ (length (now bytes) ≡ 16) × (at ≤ 8) × (getD (now bytes) (at + 2) 0 ≡ before) ⌝ }
-    ensures { λ _. ⌜ now (bytes .exit) ≡ set (now (bytes .entry)) (at + 2) after ⌝ }
+    requires { ⌜ (length (now bytes) ≡ 16) × (at ≤ 8) ⌝ }
+    ensures { λ _. ⌜ now (bytes .exit) ≡ codePut (now (bytes .entry)) at before after ⌝ }
 {
     if before != after {
         bytes[at + 2] = after;
@@ -63,8 +62,8 @@ fn put_code(bytes: &mut [u8], at: usize, before: u8, after: u8)
 
 // Writes the prefix where it has changed.
 fn put_prefix(bytes: &mut [u8], at: usize, before: u32, after: u32)
-    requires { ⌜ (length (now bytes) ≡ 16) × (at ≤ 8) × ((i : ℕ) → i < 4 → getD (now bytes) (at + (4 + i)) 0 ≡ getD (prefixBytes before) i 0) ⌝ }
-    ensures { λ _. ⌜ now (bytes .exit) ≡ written (now (bytes .entry)) (λ i. at + (4 + i)) (λ i. getD (prefixBytes after) i 0) 4 ⌝ }
+    requires { ⌜ (length (now bytes) ≡ 16) × (at ≤ 8) ⌝ }
+    ensures { λ _. ⌜ now (bytes .exit) ≡ prefixPut (now (bytes .entry)) at before after ⌝ }
 {
     if before != after {
         bytes[at + 4] = (after % 256) as u8;
@@ -74,10 +73,11 @@ fn put_prefix(bytes: &mut [u8], at: usize, before: u32, after: u32)
     }
 }
 
-// Writes the record q over the bytes of the record p, from which it differs in condition code and prefix only.
+// Writes the record q over the bytes of the record p, from which it differs in condition code and prefix only. Where it does not differ, as
+// after a refused request, nothing is written.
 pub(crate) fn put_record(bytes: &mut [u8], at: usize, p: Processor, q: Processor)
-    requires { ⌜ (length (now bytes) ≡ 16) × (at ≤ 8) × Holds (now bytes) at p × Kept p q ⌝ }
-    ensures { λ _. ⌜ now (bytes .exit) ≡ written (now (bytes .entry)) (λ i. at + i) (λ i. getD (recordBytes q) i 0) 8 ⌝ }
+    requires { ⌜ (length (now bytes) ≡ 16) × (at ≤ 8) ⌝ }
+    ensures { λ _. ⌜ now (bytes .exit) ≡ recordPut (now (bytes .entry)) at p q ⌝ }
 {
     put_code(bytes, at, p.code, q.code);
     put_prefix(bytes, at, p.prefix, q.prefix);

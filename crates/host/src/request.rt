@@ -9,10 +9,14 @@ ghost use mathlib.Core.Path.{_≡_};
 ghost use Rattle.host.specs.Boundary.{requestOf, Packs};
 
 // An access with these operands.
-fn access_of(kind: AccessKind, start: u32, count: u32) -> Request
-    ensures { λ r. ⌜ r ≡ Request.Access kind start count ⌝ }
+fn access_of(kind: AccessKind, address: u32, count: u32) -> Request
+    ensures { λ r. ⌜ r ≡ Request.Access kind address count ⌝ }
 {
-    Request::Access { kind, start, count }
+    Request::Access {
+        kind,
+        address,
+        count,
+    }
 }
 
 // The request with this operation number and operands.

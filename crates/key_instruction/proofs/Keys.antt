@@ -7,8 +7,9 @@ use native.Mathlib.Nat.{add-zero}
 use native.Mathlib.Omega.{arith}
 use lib.ListN.{getD, set}
 use lib.Seq.{getD-set-other}
-use Rattle.machine.specs.Numbers.{written}
+use Rattle.machine.specs.Lists.{written}
 
+-- the key of unit u replaced
 abbrev replaced : (ℕ → ℕ) → List ℕ → ℕ → List ℕ
 replaced f keys u = set keys u (f (getD keys u 0))
 

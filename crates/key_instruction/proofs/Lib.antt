@@ -1,4 +1,4 @@
 -- The laws that several proofs share.
 pub mod Lines
 pub mod Keys
-pub mod Inside
+pub mod Steps

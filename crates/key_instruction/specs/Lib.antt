@@ -1,3 +1,3 @@
 -- What the helpers of this crate ask and give.
-pub mod Operands
+pub mod Decoded
 pub mod Units

@@ -1,8 +1,7 @@
 // The lines of the table of answers that a key instruction can meet, and all of them from top to bottom.
-use crate::operands::Parts;
+use crate::decode::Decoded;
 use machine::Processor;
 use machine::Reason;
-use machine::Request;
 use machine::Settings;
 use machine::Verdict;
 use machine::answers::first_of;
@@ -11,35 +10,34 @@ use machine::numbers::valid;
 ghost use mathlib.Core.Path.{_≡_};
 ghost use mathlib.Core.Bool.{not, _&&_};
 ghost use lib.Dec.{leb};
-ghost use Rattle.machine.specs.declared.KeyInstruction.{KeyInstruction};
 ghost use Rattle.machine.specs.Answers.{line, firstOf};
-ghost use Rattle.machine.specs.Table.{absoluteOutside, plan};
-ghost use Rattle.key_instruction.specs.Operands.{partsOf};
+ghost use Rattle.machine.specs.Table.{absoluteOutside};
+ghost use Rattle.key_instruction.specs.Decoded.{decodedVerdict};
 
 // Lines 66 and 1: the address of RRB, and the extensions.
-fn operand_lines(settings: Settings, parts: Parts) -> Verdict
+fn operand_lines(settings: Settings, decoded: Decoded) -> Verdict
     ensures { λ r. ⌜ r
-        ≡ firstOf (line Reason.Operand (parts .«address_invalid»))
-        (line Reason.Operation (parts .extended && not (settings .extensions))) ⌝ }
+        ≡ firstOf (line Reason.Operand (decoded .«address_invalid»))
+        (line Reason.Operation (decoded .extended && not (settings .extensions))) ⌝ }
 {
     first_of(
-        refuse(Reason::Operand, parts.address_invalid),
-        refuse(Reason::Operation, parts.extended & !settings.extensions),
+        refuse(Reason::Operand, decoded.address_invalid),
+        refuse(Reason::Operation, decoded.extended & !settings.extensions),
     )
 }
 
 // Lines 2, 19 and 6: the state, CR0 bit 7, and bits 28-31 of R2.
-fn state_lines(settings: Settings, p: Processor, parts: Parts) -> Verdict
+fn state_lines(settings: Settings, p: Processor, decoded: Decoded) -> Verdict
     ensures { λ r. ⌜ r
         ≡ firstOf (line Reason.Privileged (p .problem))
-        (firstOf (line Reason.SpecialOperation (not (parts .extended) && settings .«four_k» && not (p .«key_control»)))
-        (line Reason.Specification (parts .unspecified))) ⌝ }
+        (firstOf (line Reason.SpecialOperation (not (decoded .extended) && settings .«four_k» && not (p .«key_control»)))
+        (line Reason.Specification (decoded .«low_bits_on»))) ⌝ }
 {
     let special = refuse(
         Reason::SpecialOperation,
-        !parts.extended & settings.four_k & !p.key_control,
+        !decoded.extended & settings.four_k & !p.key_control,
     );
-    let specification = refuse(Reason::Specification, parts.unspecified);
+    let specification = refuse(Reason::Specification, decoded.low_bits_on);
     first_of(
         refuse(Reason::Privileged, p.problem),
         first_of(special, specification),
@@ -63,20 +61,19 @@ fn address_lines(storage_length: usize, p: Processor, block: u32) -> Verdict
     )
 }
 
-// The lines from 64 to 67 for an instruction with these parts; p is the record of the processor with this number.
+// The lines from 64 to 67 for an instruction of a processor with the record p.
 pub(crate) fn verdict(
     settings: Settings,
     storage_length: usize,
     key_length: usize,
-    number: usize,
     p: Processor,
-    parts: Parts,
+    decoded: Decoded,
 ) -> Verdict
-    ensures { λ r. ⌜ ((i : KeyInstruction) → parts ≡ partsOf i → r ≡ plan settings «storage_length» «key_length» number p (Request.Key i) 0) ⌝ }
+    ensures { λ r. ⌜ r ≡ decodedVerdict settings «storage_length» «key_length» p decoded ⌝ }
 {
-    let machine = valid(settings, storage_length, key_length, number, p);
-    let operand = operand_lines(settings, parts);
-    let state = state_lines(settings, p, parts);
-    let address = address_lines(storage_length, p, parts.block);
+    let machine = valid(settings, storage_length, key_length, p);
+    let operand = operand_lines(settings, decoded);
+    let state = state_lines(settings, p, decoded);
+    let address = address_lines(storage_length, p, decoded.block);
     first_of(machine, first_of(operand, first_of(state, address)))
 }

@@ -6,20 +6,20 @@ use machine::Processor;
 use machine::Request;
 use machine::Served;
 use machine::Settings;
-use machine::Verdict;
+use machine::answers::answer_of;
+use machine::answers::stops;
 use machine::numbers::unit_of;
-ghost use Prim.Native.Nat.{ℕ};
 ghost use mathlib.Core.Path.{_≡_};
-ghost use mathlib.Core.List.{List};
-ghost use lib.ListN.{length, set};
-ghost use Rattle.machine.specs.KeyInstructions.{wordGiven, keysLeft, codeLeft};
-ghost use Rattle.machine.specs.Numbers.{unitOf, own as recordOf};
+ghost use mathlib.Core.List.{[]};
+ghost use lib.ListN.{length};
+ghost use Rattle.machine.specs.Numbers.{unitOf};
 ghost use Rattle.machine.specs.Prefixing.{absolute};
+ghost use Rattle.machine.specs.KeyInstructions.{wordGiven, keysLeft, codeLeft};
 ghost use Rattle.machine.specs.Step.{withCode, outcome, step};
 ghost use Rattle.key_instruction.specs.Units.{Inside};
 
 mod checks;
-mod operands;
+mod decode;
 mod operations;
 
 // The key unit of a block with this real address, for a processor with the record p.
@@ -62,31 +62,28 @@ fn perform(keys: &mut [u8], p: Processor, u: usize, two: bool, operation: KeyOpe
     }
 }
 
-// A key instruction for the processor with this number and the record p. It takes no buffer, and of storage the length alone: for every
-// storage of this length, every buffer and every list of records in which the processor has this one, what is left is what the step leaves.
+// A key instruction of a processor with the record p: the step with an empty buffer, since it takes none. Of storage it looks at the
+// length alone.
 pub fn key_instruction(
     settings: Settings,
-    storage_length: usize,
+    storage: &[u8],
     keys: &mut [u8],
     p: Processor,
-    number: usize,
     instruction: KeyInstruction,
 ) -> Served
-    ensures { λ r. ⌜ ((storage : List ℕ) (ps : List Processor) (buffer : List ℕ) → length storage ≡ «storage_length» → recordOf ps number ≡ p
-        → outcome (r .answer) storage (now (keys .exit)) (set ps number (r .processor)) buffer ≡ step settings storage (now (keys .entry)) ps number (Request.Key instruction) buffer) ⌝ }
+    ensures { λ r. ⌜ outcome (r .answer) (now (storage .entry)) (now (keys .exit)) (r .processor) []
+        ≡ step settings (now (storage .entry)) (now (keys .entry)) p (Request.Key instruction) [] ⌝ }
 {
-    let parts = operands::taken_apart(instruction);
-    let verdict = checks::verdict(settings, storage_length, keys.len(), number, p, parts);
-    match verdict {
-        Verdict::Clear => {
-            let u = first_unit(settings, p, parts.block);
-            let two = parts.extended & !settings.four_k;
-            let operation = parts.operation;
-            perform(keys, p, u, two, operation)
-        }
-        Verdict::Stop { reason, place } => Served {
-            answer: Answer::Refused { reason, place },
+    let decoded = decode::decode(instruction);
+    let verdict = checks::verdict(settings, storage.len(), keys.len(), p, decoded);
+    if stops(verdict) {
+        return Served {
+            answer: answer_of(verdict, 0),
             processor: p,
-        },
+        };
     }
+    let u = first_unit(settings, p, decoded.block);
+    let two = decoded.extended & !settings.four_k;
+    let operation = decoded.operation;
+    perform(keys, p, u, two, operation)
 }

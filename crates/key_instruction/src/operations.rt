@@ -39,7 +39,8 @@ pub(crate) fn set(keys: &mut [u8], u: usize, two: bool, r1: u32)
 // The reference bit becomes zero; the condition code is the low-order key's.
 pub(crate) fn reset(keys: &mut [u8], u: usize, two: bool) -> u8
     requires { ⌜ Inside (length (now keys)) u two ⌝ }
-    ensures { λ r. ⌜ (now (keys .exit) ≡ keysLeft (now (keys .entry)) u two KeyOperation.Reset) × (r ≡ codeOf (getD (now (keys .entry)) u 0)) ⌝ }
+    ensures { λ r. ⌜ now (keys .exit) ≡ keysLeft (now (keys .entry)) u two KeyOperation.Reset ⌝ }
+    ensures { λ r. ⌜ r ≡ codeOf (getD (now (keys .entry)) u 0) ⌝ }
 {
     let low = keys[u];
     let code = code_of(low);

@@ -8,26 +8,26 @@ use Rattle.machine.specs.Turns.{Order, done, first, second, run, Every}
 
 -- how an action treats a part: not at all; it fetches it, and completes that or not; or it does anything else with it
 pub data Mode : Type 0 where
-  none : Mode
+  untouched : Mode
   fetch : Bool → Mode
   write : Mode
 
 -- t is what a completed fetch makes of a part. To an action in this mode v and w are alike
 abbrev pub Alike : {P : Type 0} → Mode → (P → P) → P → P → Type 0
-Alike none t v w = Unit {0}
+Alike untouched t v w = Unit {0}
 Alike (fetch completed) t v w = t v ≡ t w
 Alike write t v w = v ≡ w
 
 -- an action in this mode that finds v leaves w
 abbrev pub Leaves : {P : Type 0} → Mode → (P → P) → P → P → Type 0
-Leaves none t v w = w ≡ v
+Leaves untouched t v w = w ≡ v
 Leaves (fetch completed) t v w = w ≡ cond completed (t v) v
 Leaves write t v w = Unit {0}
 
 -- two actions that treat a part in these modes are free of each other there
 pub data Free : Mode → Mode → Type 0 where
-  only-first : {a : Mode} → Free a none
-  only-second : {b : Mode} → Free none b
+  only-first : {a : Mode} → Free a untouched
+  only-second : {b : Mode} → Free untouched b
   fetches : {c d : Bool} → Free (fetch c) (fetch d)
 
 -- to an action that finds the state m, the state n is alike in every part
@@ -55,7 +55,7 @@ swap fetches = fetches
 -- one part, that holds v
 module _ {P : Type 0} (t : P → P) (twice : (v : P) → t (t v) ≡ t v) (v : P) where
   same-alike : (b : Mode) (w : P) → w ≡ v → Alike b t v w
-  same-alike none w e = tt
+  same-alike untouched w e = tt
   same-alike (fetch c) w e = ap t (sym e)
   same-alike write w e = sym e
 
@@ -71,7 +71,7 @@ module _ {P : Type 0} (t : P → P) (twice : (v : P) → t (t v) ≡ t v) (v : P
 
   -- one action makes x of v, and q of y; the other makes y of v, and p of x
   only-meet : (b : Mode) (x y p q : P) → x ≡ v → q ≡ y → Leaves b t v y → Leaves b t x p → (b ≡ write → p ≡ y) → p ≡ q
-  only-meet none x y p q e f g h w = cc
+  only-meet untouched x y p q e f g h w = cc
   only-meet (fetch true) x y p q e f g h w = cc
   only-meet (fetch false) x y p q e f g h w = cc
   only-meet write x y p q e f g h w = w refl ∙ sym f
@@ -96,11 +96,11 @@ every next p q m [] f h = tt
 every next p q m (x ∷ xs) f h = (f m x (h .0), every next p q (next m x) xs f (h .1))
 
 -- a list that runs alone: the state at its end, and what its elements give back
-abbrev through : {S A : Type 0} → (S → A → S) → S → List A → S
+abbrev pub through : {S A : Type 0} → (S → A → S) → S → List A → S
 through next m [] = m
 through next m (x ∷ xs) = through next (next m x) xs
 
-abbrev gives : {S A R : Type 0} → (S → A → S) → (S → A → R) → S → List A → List R
+abbrev pub gives : {S A R : Type 0} → (S → A → S) → (S → A → R) → S → List A → List R
 gives next give m [] = []
 gives next give m (x ∷ xs) = give m x ∷ gives next give (next m x) xs
 
@@ -134,13 +134,13 @@ module _ {S A R U : Type 0} {P : U → Type 0} {next : S → A → S} {give : S 
       back u = swap (free u)
 
   -- x before the list ends as x after it, and the list gives back the same and has the same modes after x as without it
-  record Passed (m : S) (x : A) (ys : List A) : Type 1 where
+  record MovedPast (m : S) (x : A) (ys : List A) : Type 1 where
     past : through next (next m x) ys ≡ next (through next m ys) x
     same-gives : gives next give (next m x) ys ≡ gives next give m ys
     same-modes : (p : Mode → Type 0) (u : U)
         → Every next (λ n y. p (mode n y u)) m ys → Every next (λ n y. p (mode n y u)) (next m x) ys
 
-  pass : (m : S) (x : A) (ys : List A) → ((u : U) → Every next (λ n y. Free (mode m x u) (mode n y u)) m ys) → Passed m x ys
+  pass : (m : S) (x : A) (ys : List A) → ((u : U) → Every next (λ n y. Free (mode m x u) (mode n y u)) m ys) → MovedPast m x ys
   pass m x [] free = record { past = refl; same-gives = refl; same-modes = λ p u h. tt }
   pass m x (y ∷ ys) free =
       let here : (u : U) → Free (mode m x u) (mode m y u) = λ u. free u .0 in

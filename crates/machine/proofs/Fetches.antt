@@ -12,7 +12,7 @@ use Rattle.machine.specs.declared.Request.the-variants.{Access, Key, Pre
 use Rattle.machine.specs.declared.AccessKind.{AccessKind}
 use Rattle.machine.specs.declared.AccessKind.the-variants.{Fetch, Store}
 use Rattle.machine.specs.declared.Verdict.the-variants.{Clear}
-use Rattle.machine.specs.Numbers.{own, add24}
+use Rattle.machine.specs.Numbers.{add24}
 use Rattle.machine.specs.Key.{accessControl, fetchProtection, afterFetch}
 use Rattle.machine.specs.Protection.{permitted, forbidden}
 use Rattle.machine.specs.Table.{protection, verdict}
@@ -46,25 +46,32 @@ pub same-protection : (s : Settings) (p : Processor) (keys others : List ℕ) (r
     → ((i : ℕ) → i < unitCount s r → afterFetch (getD keys (unitAt s p r i) 0) ≡ afterFetch (getD others (unitAt s p r i) 0))
     → protection s keys p r ≡ protection s others p r
 unfolding protection
-same-protection s p keys others (Access kind start count) same =
-    bytes-same _ _ _ count (λ i h. same-forbidden _ _ (same i h) kind p (add24 start i))
+same-protection s p keys others (Access kind address count) same =
+    bytes-same _ _ _ count (λ i h. same-forbidden _ _ (same i h) kind p (add24 address i))
 same-protection s p keys others (Key i) same = refl
 same-protection s p keys others (Prefix i) same = refl
 
 -- what a fetch leaves: storage as it was, and of each key that it names, if it completes, what a completed fetch makes of it
-pub fetch-leaves : (s : Settings) (storage keys : List ℕ) (ps : List Processor) (n : ℕ) (r : Request) (buffer : List ℕ) → isFetch r ≡ true
-    → (step s storage keys ps n r buffer .storage ≡ storage)
-    × (verdict s (length storage) keys n (own ps n) r (length buffer) ≡ Clear → (u : ℕ) → names Clear s (own ps n) r u ≡ true
-    → getD (step s storage keys ps n r buffer .keys) u 0 ≡ afterFetch (getD keys u 0))
-fetch-leaves s storage keys ps n (Access Fetch start count) buffer f = (fetch-leaves-storage s storage keys ps n start count buffer, at)
-  where
-    at : verdict s (length storage) keys n (own ps n) (Access Fetch start count) (length buffer) ≡ Clear
-        → (u : ℕ) → names Clear s (own ps n) (Access Fetch start count) u ≡ true
-        → getD (step s storage keys ps n (Access Fetch start count) buffer .keys) u 0 ≡ afterFetch (getD keys u 0)
-    at clear u named =
-        let (i, h, q) = named-by s (own ps n) (Access Fetch start count) u named in
-        let done = completed-by-table s storage keys ps n (Access Fetch start count) buffer .1 clear in
-        rw q at (access-leaves-key s storage keys ps n start count buffer Fetch done i h)
-fetch-leaves s storage keys ps n (Access Store start count) buffer f = absurd (not-both f refl)
-fetch-leaves s storage keys ps n (Key i) buffer f = absurd (not-both f refl)
-fetch-leaves s storage keys ps n (Prefix i) buffer f = absurd (not-both f refl)
+module _ (s : Settings) (storage keys : List ℕ) (p : Processor) (r : Request) (buffer : List ℕ) (fetch : isFetch r ≡ true) where
+  pub fetch-keeps-storage : step s storage keys p r buffer .storage ≡ storage
+  fetch-keeps-storage = go r fetch
+    where
+      go : (r : Request) → isFetch r ≡ true → step s storage keys p r buffer .storage ≡ storage
+      go (Access Fetch address count) f = fetch-leaves-storage s storage keys p address count buffer
+      go (Access Store address count) f = absurd (not-both f refl)
+      go (Key i) f = absurd (not-both f refl)
+      go (Prefix i) f = absurd (not-both f refl)
+
+  pub fetch-leaves-keys : verdict s (length storage) keys p r (length buffer) ≡ Clear → (u : ℕ) → names Clear s p r u ≡ true
+      → getD (step s storage keys p r buffer .keys) u 0 ≡ afterFetch (getD keys u 0)
+  fetch-leaves-keys clear u n = go r fetch clear n
+    where
+      go : (r : Request) → isFetch r ≡ true → verdict s (length storage) keys p r (length buffer) ≡ Clear → names Clear s p r u ≡ true
+          → getD (step s storage keys p r buffer .keys) u 0 ≡ afterFetch (getD keys u 0)
+      go (Access Fetch address count) f c n =
+          let (i, h, q) = named-by s p (Access Fetch address count) u n in
+          let done = completed-by-table s storage keys p (Access Fetch address count) buffer .1 c in
+          rw q at (access-leaves-key s storage keys p address count buffer Fetch done i h)
+      go (Access Store address count) f c n = absurd (not-both f refl)
+      go (Key i) f c n = absurd (not-both f refl)
+      go (Prefix i) f c n = absurd (not-both f refl)

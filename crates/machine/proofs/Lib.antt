@@ -2,19 +2,22 @@
 -- Runs of writes, verdicts, and the table of small facts
 pub mod Written
 pub mod Verdicts
+pub mod Tests
 pub mod SmallFacts
--- A single request
+-- A single request of a processor
 pub mod Prefixing
 pub mod Units
 pub mod KeyBytes
-pub mod Plans
+pub mod BeforeProtection
 pub mod AbsoluteAddress
 pub mod Requests
-pub mod Conditions
 pub mod AnswerPlace
 pub mod Accesses
 pub mod KeyInstructions
 pub mod Named
+-- A request over the pair of records
+pub mod Pairs
+pub mod Conditions
 pub mod Order
 -- Condition 3: the law about lists of actions, and that the step obeys it
 pub mod Actions
@@ -24,3 +27,4 @@ pub mod Dependence
 pub mod Steps
 pub mod Turns
 pub mod TurnFacts
+pub mod Naming

@@ -1,39 +1,45 @@
 -- The step obeys the laws of actions. What it leaves of each part follows from the laws of a single request. In two states that are alike to it
--- a request has one plan, so it names the same units, and one verdict; where that is clear, what it leaves and gives back is the same.
--- Assumes nothing.
+-- a request finds the same record and the same verdict of the lines before protection, so it names the same units, and one verdict; where that
+-- is clear, what it leaves and gives back is the same. Assumes nothing.
 use Prim.Native.Nat.{ℕ, _<_}
-use mathlib.Core.Path.{_≡_, refl, sym, ap}
+use mathlib.Core.Path.{_≡_, refl, sym, ap, _∙_}
 use mathlib.Core.Bool.{Bool, true, false, cond, _&&_}
 use mathlib.Core.Logic.{⊎-elim}
+use mathlib.Core.Option.{Option, none, some}
 use native.Mathlib.Decide.{ℕ-discrete}
 use native.Mathlib.Omega.{arith}
 use lib.Dec.{eqb, ltb}
+use lib.ListN.{length, getD, set, getElem?}
 use borrow.Author.Tests.{ltb-true, ltb-false, eq-eqb, lt-ltb}
 use Rattle.machine.specs.declared.Settings.{Settings}
 use Rattle.machine.specs.declared.Processor.{Processor}
 use Rattle.machine.specs.declared.Verdict.{Verdict}
 use Rattle.machine.specs.declared.Verdict.the-variants.{Clear, Stop}
-use Rattle.machine.specs.Numbers.{own, unitOf}
+use Rattle.machine.specs.Lists.{recordOf}
+use Rattle.machine.specs.Numbers.{unitOf}
 use Rattle.machine.specs.Key.{afterFetch}
 use Rattle.machine.specs.Answers.{firstOf}
 use Rattle.machine.specs.Table.{verdict}
-use Rattle.machine.specs.Step.{performed, step}
+use Rattle.machine.specs.Step.{Outcome, performed, step}
+use Rattle.machine.specs.Pair.{PairOutcome, served, pairStep}
 use Rattle.machine.specs.Units.{names}
-use Rattle.machine.specs.Turns.{State, Turn, Given, next, given, named, isFetch}
-use Rattle.machine.proofs.Actions.{none, fetch, write, Alike, Leaves, AlikeTo, Laws}
+use Rattle.machine.specs.Turns.{State, Turn, Given, next, given, namedBy, isFetch}
+use Rattle.machine.proofs.Actions.{untouched, fetch, write, Alike, Leaves, AlikeTo, Laws}
 use Rattle.machine.proofs.Verdicts.{tested, not-both}
 use Rattle.machine.proofs.Units.{named-at}
-use Rattle.machine.proofs.Fetches.{same-protection, fetch-leaves}
-use Rattle.machine.proofs.Plans.{no-record, plan-clear, clear-plan}
-use Rattle.machine.proofs.Requests.{lengths-stay, other-record-stays, other-number-refused}
+use Rattle.machine.proofs.Fetches.{same-protection, fetch-keeps-storage, fetch-leaves-keys}
+use Rattle.machine.proofs.BeforeProtection.{table-clear}
+use Rattle.machine.proofs.Requests.{lengths-stay}
+use Rattle.machine.proofs.Pairs.{by-record, other-record-stays, other-number-refused, lookup-set-agree}
 use Rattle.machine.proofs.Named.{only-named-bytes-change, only-named-keys-change}
-use Rattle.machine.proofs.Parts.{Part, byte, key, processor, lengths, Value, read, whole, touch, touch-twice, planOf, verdictOf, isClear, treatment, mode}
-use Rattle.machine.proofs.Dependence.{part-same, answer-same, buffer-same}
+use Rattle.machine.proofs.Parts.{Part, byte, key, processor, lengths, Value, read, whole, touch, touch-twice, isClear, treatment, mode}
+use Rattle.machine.proofs.Parts.{recordFound, beforeOf, verdictOf, unitModeBy, unitMode}
+use Rattle.machine.proofs.Dependence.{byte-same, key-same, record-same, answer-same, buffer-same}
 
 -- what is left of a part that is named or not, by a fetch or not, which completes or not
 left-of : {P : Type 0} (t : P → P) (v w : P) (isNamed isFetched completes : Bool)
     → (isNamed ≡ false → w ≡ v) → (isNamed ≡ true → isFetched ≡ true → w ≡ cond completes (t v) v)
-    → Leaves (cond isNamed (cond isFetched (fetch completes) write) none) t v w
+    → Leaves (cond isNamed (cond isFetched (fetch completes) write) untouched) t v w
 left-of t v w false f c kept fetched = kept refl
 left-of t v w true true c kept fetched = fetched refl refl
 left-of t v w true false c kept fetched = tt
@@ -49,108 +55,168 @@ as-fetched t v w true c e = e
 as-fetched t v w false c e = ap t e
 
 module _ (s : Settings) (t : Turn) where
-  abbrev ownRecord : State → Processor
-  ownRecord m = own (m .processors) (t .number)
+  -- what the request leaves by the record that it finds
+  abbrev left : Option Processor → State → PairOutcome
+  left f m = served f s (m .storage) (m .keys) (m .processors) (t .processorNumber) (t .request) (t .buffer)
 
-  -- unit u is named by a request whose plan is clear
-  abbrev namesUnit : State → ℕ → Bool
-  namesUnit m u = names Clear s (ownRecord m) (t .request) u
+  abbrev own : State → Processor → Outcome
+  own m p = step s (m .storage) (m .keys) p (t .request) (t .buffer)
+
+  -- unit u is named by a request that the lines before protection let pass
+  abbrev namesUnit : Processor → ℕ → Bool
+  namesUnit p u = names Clear s p (t .request) u
 
   module _ (m : State) where
-    key-fetched : (v : Verdict) → verdictOf s m t ≡ v → (u : ℕ) → named s u m t ≡ true → isFetch (t .request) ≡ true
-        → read (next s m t) (key u) ≡ cond (isClear v) (afterFetch (read m (key u))) (read m (key u))
+    key-fetched : (p : Processor) (v : Verdict) → verdictOf s m t p ≡ v → (u : ℕ)
+        → namedBy (some p) s u m t ≡ true → isFetch (t .request) ≡ true
+        → getD (own m p .keys) u 0 ≡ cond (isClear v) (afterFetch (read m (key u))) (read m (key u))
     unfolding step performed
-    key-fetched (Stop reason place) e u n f = rw e
-    key-fetched Clear e u n f =
-        fetch-leaves s (m .storage) (m .keys) (m .processors) (t .number) (t .request) (t .buffer) f .1 e u (rw (clear-plan s _ _ _ _ (t .request) _ e) at n)
+    key-fetched p (Stop reason place) e u n f = rw e
+    key-fetched p Clear e u n f =
+        fetch-leaves-keys s (m .storage) (m .keys) p (t .request) (t .buffer) f e u (rw (table-clear s _ _ _ (t .request) _ e) at n)
+
+    byte-left : (f : Option Processor) (a : ℕ)
+        → Leaves (unitModeBy f s m t (unitOf s a)) (λ v. v) (read m (byte a)) (getD (left f m .storage) a 0)
+    unfolding served
+    byte-left none a = refl
+    byte-left (some p) a =
+        left-of _ _ _ (namedBy (some p) s (unitOf s a) m t) (isFetch (t .request)) _
+        (only-named-bytes-change s (m .storage) (m .keys) p (t .request) (t .buffer) a)
+        (λ n f. rw (fetch-keeps-storage s (m .storage) (m .keys) p (t .request) (t .buffer) f) (same-either (isClear (verdictOf s m t p)) _))
+
+    key-left : (f : Option Processor) (u : ℕ) → Leaves (unitModeBy f s m t u) afterFetch (read m (key u)) (getD (left f m .keys) u 0)
+    unfolding served
+    key-left none u = refl
+    key-left (some p) u =
+        left-of _ _ _ (namedBy (some p) s u m t) (isFetch (t .request)) _
+        (only-named-keys-change s (m .storage) (m .keys) p (t .request) (t .buffer) u)
+        (key-fetched p (verdictOf s m t p) refl u)
 
     -- a record that is not its processor's; where the number is not 0 or 1, any
-    record-kept : (i : ℕ) → eqb i (t .number) && ltb i 2 ≡ false → read (next s m t) (processor i) ≡ read m (processor i)
-    record-kept i f = go (ℕ-discrete i (t .number))
+    record-kept : (i : ℕ) → eqb i (t .processorNumber) && ltb i 2 ≡ false → read (next s m t) (processor i) ≡ read m (processor i)
+    record-kept i f = go (ℕ-discrete i (t .processorNumber))
       where
-        go : Dec (i ≡ t .number) → read (next s m t) (processor i) ≡ read m (processor i)
-        go (no d) = other-record-stays s (m .storage) (m .keys) (m .processors) (t .number) (t .request) (t .buffer) i d
+        go : Dec (i ≡ t .processorNumber) → read (next s m t) (processor i) ≡ read m (processor i)
+        go (no d) = other-record-stays s (m .storage) (m .keys) (m .processors) (t .processorNumber) (t .request) (t .buffer) i d
         go (yes q) =
-            rw (other-number-refused s (m .storage) (m .keys) (m .processors) (t .number) (t .request) (t .buffer)
-            (omega (arith, ltb-false i 2 (rw (eq-eqb i (t .number) q) at f))))
+            rw (other-number-refused s (m .storage) (m .keys) (m .processors) (t .processorNumber) (t .request) (t .buffer)
+            (omega (arith, ltb-false i 2 (rw (eq-eqb i (t .processorNumber) q) at f))))
 
     leaves : (q : Part) → Leaves (mode s m t q) (touch q) (read m q) (read (next s m t) q)
-    leaves (byte a) =
-        left-of _ _ _ (named s (unitOf s a) m t) (isFetch (t .request)) _
-        (only-named-bytes-change s (m .storage) (m .keys) (m .processors) (t .number) (t .request) (t .buffer) a)
-        (λ n f. rw (fetch-leaves s (m .storage) (m .keys) (m .processors) (t .number) (t .request) (t .buffer) f .0) (same-either (isClear (verdictOf s m t)) _))
-    leaves (key u) =
-        left-of _ _ _ (named s u m t) (isFetch (t .request)) _
-        (only-named-keys-change s (m .storage) (m .keys) (m .processors) (t .number) (t .request) (t .buffer) u)
-        (key-fetched (verdictOf s m t) refl u)
-    leaves (processor i) = left-of _ _ _ (eqb i (t .number) && ltb i 2) false true (record-kept i) (λ n f. absurd (not-both f refl))
+    unfolding pairStep
+    leaves (byte a) = byte-left (recordFound m t) a
+    leaves (key u) = key-left (recordFound m t) u
+    leaves (processor i) =
+        left-of _ _ _ (eqb i (t .processorNumber) && ltb i 2) false true (record-kept i) (λ n f. absurd (not-both f refl))
     leaves lengths =
-        let (a, b, c, d) = lengths-stay s (m .storage) (m .keys) (m .processors) (t .number) (t .request) (t .buffer) in
-        rw (a, b, c)
+        by-record s (m .storage) (m .keys) (m .processors) (t .processorNumber) (t .request) (t .buffer)
+        (λ o. _≡_ {A = ℕ × ℕ} (length (o .storage), length (o .keys)) (length (m .storage), length (m .keys)))
+        (λ e. refl) (λ p e. let (a, b, c) = lengths-stay s (m .storage) (m .keys) p (t .request) (t .buffer) in rw (a, b))
 
   module _ (m o : State) (alike : AlikeTo (mode s) read touch m o t) where
-    same-own : t .number < 2 → ownRecord o ≡ ownRecord m
-    same-own h = sym (rw (eq-eqb (t .number) (t .number) refl, lt-ltb (t .number) 2 h) at (alike (processor (t .number))))
-
-    same-plan : planOf s o t ≡ planOf s m t
-    same-plan =
-        rw (← ap (λ l. l .0) (alike lengths), ← ap (λ l. l .1) (alike lengths))
-        (⊎-elim (λ h. rw (same-own (ltb-true _ _ h))) (λ h. no-record s _ _ (t .number) _ _ (t .request) _ h) (tested (ltb (t .number) 2)))
-
-    module _ (clear : planOf s m t ≡ Clear) where
-      same-record : ownRecord o ≡ ownRecord m
-      same-record = same-own (plan-clear s _ _ (t .number) _ (t .request) _ clear .number)
-
-      key-alike : (u : ℕ) → namesUnit m u ≡ true → Alike (treatment (verdictOf s m t) (t .request)) afterFetch (read m (key u)) (read o (key u))
-      key-alike u e = rw (clear, e) at (alike (key u))
-
-      same-keys : isFetch (t .request) ≡ false → (u : ℕ) → namesUnit m u ≡ true → read m (key u) ≡ read o (key u)
-      same-keys f u e = rw f at (key-alike u e)
-
-      same-bytes : (a : ℕ) → namesUnit m (unitOf s a) ≡ true → read m (byte a) ≡ read o (byte a)
-      same-bytes a e = as-fetched (λ v. v) _ _ (isFetch (t .request)) _ (rw (clear, e) at (alike (byte a)))
-
-    same-named : (u : ℕ) → named s u o t ≡ named s u m t
-    unfolding names
-    same-named u = go (planOf s m t) refl
+    same-found : recordFound o t ≡ recordFound m t
+    same-found = ⊎-elim (λ h. rw (found h)) (λ h. rw h) (tested (ltb (t .processorNumber) 2))
       where
-        go : (v : Verdict) → planOf s m t ≡ v → named s u o t ≡ named s u m t
-        go Clear e = rw (same-plan, e, same-record e)
-        go (Stop reason place) e = rw (same-plan, e)
+        found : ltb (t .processorNumber) 2 ≡ true → getElem? (o .processors) (t .processorNumber) ≡ getElem? (m .processors) (t .processorNumber)
+        found h = sym (rw (eq-eqb (t .processorNumber) (t .processorNumber) refl, h) at (alike (processor (t .processorNumber))))
 
-    same-verdict : verdictOf s o t ≡ verdictOf s m t
-    unfolding verdict firstOf
-    same-verdict = go (planOf s m t) refl
+    module _ (p : Processor) (found : recordFound m t ≡ some p) where
+      same-before : beforeOf s o t p ≡ beforeOf s m t p
+      same-before = rw (← ap (λ l. l .0) (alike lengths), ← ap (λ l. l .1) (alike lengths))
+
+      module _ (clear : beforeOf s m t p ≡ Clear) where
+        key-alike : (u : ℕ) → namesUnit p u ≡ true → Alike (treatment (verdictOf s m t p) (t .request)) afterFetch (read m (key u)) (read o (key u))
+        key-alike u e = rw (found, clear, e) at (alike (key u))
+
+        same-keys : isFetch (t .request) ≡ false → (u : ℕ) → namesUnit p u ≡ true → read m (key u) ≡ read o (key u)
+        same-keys f u e = rw f at (key-alike u e)
+
+        same-bytes : (a : ℕ) → namesUnit p (unitOf s a) ≡ true → read m (byte a) ≡ read o (byte a)
+        same-bytes a e = as-fetched (λ v. v) _ _ (isFetch (t .request)) _ (rw (found, clear, e) at (alike (byte a)))
+
+      same-verdict : verdictOf s o t p ≡ verdictOf s m t p
+      unfolding verdict firstOf
+      same-verdict = go (beforeOf s m t p) refl
+        where
+          go : (v : Verdict) → beforeOf s m t p ≡ v → verdictOf s o t p ≡ verdictOf s m t p
+          go Clear e =
+              rw (same-before, e)
+              (sym (same-protection s _ _ _ (t .request) (λ i h.
+              as-fetched _ _ _ (isFetch (t .request)) _ (key-alike e _ (named-at s _ (t .request) i h)))))
+          go (Stop reason place) e = rw (same-before, e)
+
+    same-unit-mode : (u : ℕ) → unitMode s o t u ≡ unitMode s m t u
+    same-unit-mode u = rw same-found (go (recordFound m t) refl)
       where
-        go : (v : Verdict) → planOf s m t ≡ v → verdictOf s o t ≡ verdictOf s m t
-        go Clear e =
-            rw (same-plan, e, same-record e)
-            (sym (same-protection s _ _ _ (t .request) (λ i h.
-            as-fetched _ _ _ (isFetch (t .request)) _ (key-alike e _ (named-at s _ (t .request) i h)))))
-        go (Stop reason place) e = rw (same-plan, e)
+        go : (f : Option Processor) → recordFound m t ≡ f → unitModeBy f s o t u ≡ unitModeBy f s m t u
+        go none e = refl
+        go (some p) e = rw (same-before p e, same-verdict p e)
 
     same-mode : (q : Part) → mode s o t q ≡ mode s m t q
-    same-mode (byte a) = rw (same-named (unitOf s a), same-verdict)
-    same-mode (key u) = rw (same-named u, same-verdict)
+    same-mode (byte a) = same-unit-mode (unitOf s a)
+    same-mode (key u) = same-unit-mode u
     same-mode (processor i) = refl
     same-mode lengths = refl
 
-    same-given : (v : Verdict) → verdictOf s m t ≡ v → given s o t ≡ given s m t
-    unfolding step performed
-    same-given (Stop reason place) e = rw (same-verdict, e)
-    same-given Clear e =
-        let clear = clear-plan s _ _ _ _ (t .request) _ e in
-        let answers = answer-same s _ (t .number) (t .buffer) m o (alike lengths) (t .request) (same-keys clear) in
-        let buffers = buffer-same s _ (t .number) (t .buffer) m o (alike lengths) (t .request) (same-bytes clear) in
-        rw (same-verdict, e, same-record clear, answers, buffers)
+    -- by the record found, and by the verdict where there is one
+    module _ (p : Processor) (found : recordFound m t ≡ some p) where
+      own-answer : (v : Verdict) → verdictOf s m t p ≡ v → (own o p .answer ≡ own m p .answer) × (own o p .buffer ≡ own m p .buffer)
+      unfolding step performed
+      own-answer (Stop reason place) e = rw (same-verdict p found, e) (refl, refl)
+      own-answer Clear e =
+          let clear = table-clear s _ _ _ (t .request) _ e in
+          rw (same-verdict p found, e) (
+            sym (answer-same s _ (t .buffer) m o (alike lengths) (t .request) (same-keys p found clear)),
+            sym (buffer-same s _ (t .buffer) m o (alike lengths) (t .request) (same-bytes p found clear)),
+          )
 
-    same-written : (v : Verdict) → verdictOf s m t ≡ v → (q : Part) → read m q ≡ read o q → read (next s o t) q ≡ read (next s m t) q
-    unfolding step performed
-    same-written (Stop reason place) e q w = rw (same-verdict, e) (sym w)
-    same-written Clear e q w =
-        let clear = clear-plan s _ _ _ _ (t .request) _ e in
-        rw (same-verdict, e, same-record clear)
-        (sym (part-same s _ (t .number) (t .buffer) m o (alike lengths) (t .request) (same-keys clear) q w))
+      own-record : (v : Verdict) → verdictOf s m t p ≡ v → own o p .processor ≡ own m p .processor
+      unfolding step performed
+      own-record (Stop reason place) e = rw (same-verdict p found, e)
+      own-record Clear e =
+          rw (same-verdict p found, e)
+          (sym (record-same s _ (t .buffer) m o (alike lengths) (t .request) (same-keys p found (table-clear s _ _ _ (t .request) _ e))))
+
+      own-byte : (v : Verdict) → verdictOf s m t p ≡ v → (a : ℕ) → read m (byte a) ≡ read o (byte a)
+          → getD (own o p .storage) a 0 ≡ getD (own m p .storage) a 0
+      unfolding step performed
+      own-byte (Stop reason place) e a w = rw (same-verdict p found, e) (sym w)
+      own-byte Clear e a w = rw (same-verdict p found, e) (sym (byte-same s _ (t .buffer) m o (alike lengths) (t .request) a w))
+
+      own-key : (v : Verdict) → verdictOf s m t p ≡ v → (u : ℕ) → read m (key u) ≡ read o (key u)
+          → getD (own o p .keys) u 0 ≡ getD (own m p .keys) u 0
+      unfolding step performed
+      own-key (Stop reason place) e u w = rw (same-verdict p found, e) (sym w)
+      own-key Clear e u w = rw (same-verdict p found, e) (sym (key-same s _ (t .buffer) m o (alike lengths) (t .request) u w))
+
+    same-given : given s o t ≡ given s m t
+    unfolding pairStep served
+    same-given = rw same-found (go (recordFound m t) refl)
+      where
+        go : (f : Option Processor) → recordFound m t ≡ f
+            → _≡_ {A = Given} (record { answer = left f o .answer; buffer = left f o .buffer })
+            (record { answer = left f m .answer; buffer = left f m .buffer })
+        go none e = rw (← ap (λ l. l .0) (alike lengths), ← ap (λ l. l .1) (alike lengths))
+        go (some p) e = let (a, b) = own-answer p e (verdictOf s m t p) refl in rw (a, b)
+
+    same-written : (q : Part) → read m q ≡ read o q → read (next s o t) q ≡ read (next s m t) q
+    unfolding pairStep served
+    same-written q w = rw same-found (go (recordFound m t) refl q w)
+      where
+        go : (f : Option Processor) → recordFound m t ≡ f → (q : Part) → read m q ≡ read o q
+            → read (record { storage = left f o .storage; keys = left f o .keys; processors = left f o .processors }) q
+            ≡ read (record { storage = left f m .storage; keys = left f m .keys; processors = left f m .processors }) q
+        go none e (byte a) w = sym w
+        go none e (key u) w = sym w
+        go none e (processor i) w = sym w
+        go none e lengths w = sym w
+        go (some p) e (byte a) w = own-byte p e (verdictOf s m t p) refl a w
+        go (some p) e (key u) w = own-key p e (verdictOf s m t p) refl u w
+        go (some p) e (processor i) w = rw (own-record p e (verdictOf s m t p) refl) (lookup-set-agree (o .processors) (m .processors) _ i _ (sym w))
+        go (some p) e lengths w =
+            let (a, b, c) = lengths-stay s (o .storage) (o .keys) p (t .request) (t .buffer) in
+            let (d, f, g) = lengths-stay s (m .storage) (m .keys) p (t .request) (t .buffer) in
+            rw (a, b, d, f) (sym w)
 
 pub laws : (s : Settings) → Laws State Turn Given Part Value (next s) (given s) (mode s) read touch
 laws s =
@@ -159,6 +225,6 @@ laws s =
       touch-twice = touch-twice;
       leaves = λ m t. leaves s t m;
       same-mode = λ m o t. same-mode s t m o;
-      same-given = λ m o t alike. same-given s t m o alike (verdictOf s m t) refl;
-      same-written = λ m o t alike q w. same-written s t m o alike (verdictOf s m t) refl q (rw w at (alike q));
+      same-given = λ m o t alike. same-given s t m o alike;
+      same-written = λ m o t alike q w. same-written s t m o alike q (rw w at (alike q));
     }

@@ -1,29 +1,34 @@
 -- Rows 19 and 20 of the table of small facts, on every storage of 65,536 bytes and whatever the bytes stored. Row 19 follows from the claim
 -- about any order, and row 20 shows that the claim needs its hypothesis. The steps are computed. Beside them, fetches of any addresses, which
 -- may share their units. Assumes nothing.
-use mathlib.Core.Path.{_≡_, refl, sym, ap, _∙_}
+use mathlib.Core.Path.{_≡_, refl, sym, ap, subst, _∙_}
 use mathlib.Core.Bool.{true, false}
 use mathlib.Core.Logic.{_≢_, inl, inr}
 use mathlib.Core.List.{List, [], _∷_}
 use Prim.Native.Nat.{ℕ}
 use native.Mathlib.Decide.{ℕ-discrete}
 use native.Mathlib.Omega.{arith}
-use lib.ListN.{length, getD, replicate, length-set}
+use lib.ListN.{length, getD, set, replicate, length-set}
 use lib.Seq.{getD-set-same, set-set}
 use borrow.Author.Tests.{ne-eqb}
 use Rattle.machine.specs.declared.Settings.{Settings}
 use Rattle.machine.specs.declared.Processor.{Processor}
-use Rattle.machine.specs.declared.Request.the-variants.{Access}
+use Rattle.machine.specs.declared.Request.{Request}
+use Rattle.machine.specs.declared.Request.the-variants.{Access, Key, Prefix}
+use Rattle.machine.specs.declared.KeyInstruction.the-variants.{Ssk, Iske}
+use Rattle.machine.specs.declared.PrefixInstruction.the-variants.{SetPrefix}
 use Rattle.machine.specs.declared.AccessKind.the-variants.{Fetch, Store}
-use Rattle.machine.specs.Numbers.{written}
-use Rattle.machine.specs.Key.{afterStore}
+use Rattle.machine.specs.Lists.{written}
+use Rattle.machine.specs.Key.{keyOf, afterStore, joined}
 use Rattle.machine.specs.Answers.{line, firstOf, firstByte, firstLine}
 use Rattle.machine.specs.Prefixing.{absolute}
 use Rattle.machine.specs.Protection.{permitted, lowProtected}
-use Rattle.machine.specs.Table.{addressing, absoluteAddressing, protection, plan, verdict}
+use Rattle.machine.specs.KeyInstructions.{wordGiven, keysLeft, codeLeft}
+use Rattle.machine.specs.Table.{addressing, absoluteAddressing, protection, beforeProtection, verdict}
 use Rattle.machine.specs.Step.{storageLeft, bufferLeft, keysRecorded, completed, performed, step}
-use Rattle.machine.specs.Units.{some, names}
-use Rattle.machine.specs.Turns.{Order, done, first, second, End, run, State, Turn, Given, next, given, Apart}
+use Rattle.machine.specs.Pair.{served, pairStep}
+use Rattle.machine.specs.Units.{anyBelow, names}
+use Rattle.machine.specs.Turns.{Order, done, first, second, End, run, State, Turn, Given, next, given, Every, Unnamed, Apart}
 use Rattle.machine.proofs.Turns.{any-order}
 
 -- 2K units, extensions present; prefixes 0 and 4096, PSW key 0, supervisor, bit 3 off; zero keys
@@ -38,7 +43,7 @@ start storage = record { storage = storage; keys = replicate 32 0; processors = 
 
 -- processor n stores one byte at a real address
 abbrev store : ℕ → ℕ → ℕ → Turn
-store n real b = record { number = n; request = Access Store real 1; buffer = b ∷ [] }
+store n real b = record { processorNumber = n; request = Access Store real 1; buffer = b ∷ [] }
 
 abbrev ending : List ℕ → {xs ys : List Turn} → Order xs ys → End State Given
 ending storage o = run (next settings) (given settings) (start storage) o
@@ -53,7 +58,8 @@ module _ (storage : List ℕ) (h : length storage ≡ 65536) where
     seconds = store 1 0 c ∷ store 1 0 d ∷ []
 
     pub disjoint-units : (u : ℕ) → Apart settings (start storage) firsts seconds u
-    unfolding written afterStore line firstOf firstByte firstLine absolute permitted lowProtected addressing absoluteAddressing protection plan verdict storageLeft bufferLeft keysRecorded completed performed step some names
+    unfolding written afterStore line firstOf firstByte firstLine absolute permitted lowProtected addressing absoluteAddressing protection
+        beforeProtection verdict storageLeft bufferLeft keysRecorded completed performed step served pairStep anyBelow names
     disjoint-units u = go (ℕ-discrete 0 u)
       where
         go : Dec (0 ≡ u) → Apart settings (start storage) firsts seconds u
@@ -62,6 +68,65 @@ module _ (storage : List ℕ) (h : length storage ≡ 65536) where
 
     pub orders-agree : (o p : Order firsts seconds) → ending storage o ≡ ending storage p
     orders-agree = any-order settings (start storage) firsts seconds (inl refl, (inl refl, tt)) (inl refl, (inl refl, tt)) disjoint-units
+
+  -- Lists of requests of all kinds: processor 0 sets its prefix to 8192 and then stores at real 0, which is absolute 8192; it sets a key; an
+  -- access of length 0 is refused; and a request carries the number 2. Processor 1 stores at real 0, absolute 4096; it inserts a key of a block;
+  -- and a request carries the number 2. They name units 4 and 6, and units 2, 8 and 9
+  module _ (a b : ℕ) where
+    abbrev asked : ℕ → Request → Turn
+    asked n r = record { processorNumber = n; request = r; buffer = [] }
+
+    abbrev last : List Turn
+    last = asked 0 (Key (Ssk 0x36 0x3000)) ∷ asked 0 (Access Fetch 0 0) ∷ store 2 0 a ∷ []
+
+    abbrev mixed : List Turn
+    mixed = asked 0 (Prefix (SetPrefix 8192)) ∷ store 0 0 a ∷ last
+
+    abbrev others : List Turn
+    others = store 1 0 b ∷ asked 1 (Key (Iske 0 0x4000)) ∷ store 2 0 b ∷ []
+
+    -- what processor 0's first two requests leave
+    abbrev prefixed : State
+    prefixed = record { storage = storage; keys = replicate 32 0; processors = processor 8192 ∷ processor 4096 ∷ [] }
+
+    abbrev stored : State
+    stored = record { storage = set storage 8192 a; keys = set (replicate 32 0) 4 6; processors = processor 8192 ∷ processor 4096 ∷ [] }
+
+    prefix-set : next settings (start storage) (asked 0 (Prefix (SetPrefix 8192))) ≡ prefixed
+    unfolding line firstOf firstLine addressing absoluteAddressing protection beforeProtection verdict completed performed step served pairStep
+    prefix-set = rw h
+
+    byte-stored : next settings prefixed (store 0 0 a) ≡ stored
+    unfolding written afterStore line firstOf firstByte firstLine absolute permitted lowProtected addressing absoluteAddressing
+        protection beforeProtection verdict storageLeft bufferLeft keysRecorded completed performed step served pairStep
+    byte-stored = rw h
+
+    pub mixed-apart : (u : ℕ) → Apart settings (start storage) mixed others u
+    unfolding written keyOf afterStore line firstOf firstByte firstLine absolute permitted lowProtected wordGiven keysLeft codeLeft
+        addressing absoluteAddressing protection beforeProtection verdict storageLeft bufferLeft keysRecorded completed performed step
+        served pairStep anyBelow names joined
+    mixed-apart u = go (ℕ-discrete 4 u) (ℕ-discrete 6 u)
+      where
+        go : Dec (4 ≡ u) → Dec (6 ≡ u) → Apart settings (start storage) mixed others u
+        go (yes e) d = inr (inl (rw (h, ← e), (rw (h, length-set storage 4096 b, h, ← e), (refl, tt))))
+        go (no d) (yes e) = inr (inl (rw (h, ← e), (rw (h, length-set storage 4096 b, h, ← e), (refl, tt))))
+        go (no d) (no e) = inl (
+          rw h,
+          from (store 0 0 a ∷ last) (sym prefix-set) (
+            rw (h, ne-eqb 4 u d),
+            from last (sym byte-stored)
+                (rw (length-set storage 8192 a, h, ne-eqb 6 u e), (rw (length-set storage 8192 a, h, length-set storage 8192 a, h), (refl, tt))),
+          ),
+        )
+          where
+            from : {m n : State} (xs : List Turn) → m ≡ n
+                → Every (next settings) (Unnamed settings u) m xs → Every (next settings) (Unnamed settings u) n xs
+            from xs q = subst (λ k. Every (next settings) (Unnamed settings u) k xs) q
+
+    pub mixed-agree : (o p : Order mixed others) → ending storage o ≡ ending storage p
+    mixed-agree =
+        any-order settings (start storage) mixed others (inl refl, (inl refl, (inl refl, (inl refl, (inr (omega arith), tt)))))
+        (inl refl, (inl refl, (inr (omega arith), tt))) mixed-apart
 
   -- 20: different bytes stored at real 0 by the first and at real 4096 by the second. Both are absolute 0, and the order matters
   module _ (a b : ℕ) (different : a ≢ b) where
@@ -72,7 +137,8 @@ module _ (storage : List ℕ) (h : length storage ≡ 65536) where
     firstLast = second (first done)
 
     bytes-left : (getD (ending storage secondLast .state .storage) 0 0 ≡ b) × (getD (ending storage firstLast .state .storage) 0 0 ≡ a)
-    unfolding run written afterStore line firstOf firstByte firstLine absolute permitted lowProtected addressing absoluteAddressing protection plan verdict storageLeft bufferLeft keysRecorded completed performed step
+    unfolding run written afterStore line firstOf firstByte firstLine absolute permitted lowProtected addressing absoluteAddressing
+        protection beforeProtection verdict storageLeft bufferLeft keysRecorded completed performed step served pairStep
     bytes-left = (
       rw (h, length-set storage 0 a, h, set-set storage 0 a b) (getD-set-same storage 0 b 0 (omega arith)),
       rw (h, length-set storage 0 b, h, set-set storage 0 b a) (getD-set-same storage 0 a 0 (omega arith)),
@@ -88,7 +154,8 @@ module _ (storage : List ℕ) (h : length storage ≡ 65536) where
 -- a fetch of each processor, from any start and at any addresses: what they name, they name by fetches only, and both orders agree
 module _ (s : Settings) (m : State) (real real' count count' : ℕ) (buffer buffer' : List ℕ) where
   abbrev fetch : ℕ → ℕ → ℕ → List ℕ → Turn
-  fetch n a k bytes = record { number = n; request = Access Fetch a k; buffer = bytes }
+  fetch n a k bytes = record { processorNumber = n; request = Access Fetch a k; buffer = bytes }
 
-  pub fetches-agree : (o p : Order (fetch 0 real count buffer ∷ []) (fetch 1 real' count' buffer' ∷ [])) → run (next s) (given s) m o ≡ run (next s) (given s) m p
+  pub fetches-agree : (o p : Order (fetch 0 real count buffer ∷ []) (fetch 1 real' count' buffer' ∷ []))
+      → run (next s) (given s) m o ≡ run (next s) (given s) m p
   fetches-agree = any-order s m _ _ (inl refl, tt) (inl refl, tt) (λ u. inr (inr (((λ _. refl), tt), ((λ _. refl), tt))))

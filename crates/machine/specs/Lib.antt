@@ -1,4 +1,7 @@
 -- Document 01 as definitions, in its order. Contracts cite them; the types are in src/lib.rt.
+-- Bits as the manual numbers them, runs of writes, the pair's lookup
+pub mod Bits
+pub mod Lists
 -- The machine's numbers
 pub mod Numbers
 pub mod Key
@@ -13,6 +16,7 @@ pub mod KeyInstructions
 -- The table of answers, and one request with all that it leaves
 pub mod Table
 pub mod Step
+pub mod Pair
 pub mod Conditions
 -- Lists and units named, for the third condition
 pub mod Units

@@ -5,16 +5,17 @@ use mathlib.Core.Path.{_≡_}
 use mathlib.Core.Bool.{Bool, true, false}
 use mathlib.Core.Logic.{_⊎_}
 use mathlib.Core.List.{List, [], _∷_}
+use mathlib.Core.Option.{Option, none, some}
 use lib.ListN.{length}
 use Rattle.machine.specs.declared.Settings.{Settings}
 use Rattle.machine.specs.declared.Processor.{Processor}
 use Rattle.machine.specs.declared.Request.{Request}
 use Rattle.machine.specs.declared.Request.the-variants.{Access, Key, Prefix}
 use Rattle.machine.specs.declared.AccessKind.the-variants.{Fetch, Store}
-use Rattle.machine.specs.Numbers.{own}
+use Rattle.machine.specs.Lists.{recordOf}
 use Rattle.machine.specs.Answers.{Values}
-use Rattle.machine.specs.Table.{plan}
-use Rattle.machine.specs.Step.{Outcome, step}
+use Rattle.machine.specs.Table.{beforeProtection}
+use Rattle.machine.specs.Pair.{PairOutcome, pairStep}
 use Rattle.machine.specs.Units.{names}
 
 -- First, two lists of anything.
@@ -24,6 +25,12 @@ pub data Order {A : Type 0} : List A → List A → Type 0 where
   done : Order [] []
   first : {x : A} {xs ys : List A} → Order xs ys → Order (x ∷ xs) ys
   second : {y : A} {xs ys : List A} → Order xs ys → Order xs (y ∷ ys)
+
+-- the first list whole, and then the second
+unfoldable pub firstThenSecond : {A : Type 0} (xs ys : List A) → Order xs ys
+firstThenSecond [] [] = done
+firstThenSecond [] (y ∷ ys) = second (firstThenSecond [] ys)
+firstThenSecond (x ∷ xs) ys = first (firstThenSecond xs ys)
 
 -- the end of a run: the state, and what each element of the first list and each of the second gave back
 pub record End (S R : Type 0) : Type 0 where
@@ -56,7 +63,7 @@ pub record State : Type 0 where
 
 -- a request of a list: the number that it carries, and its own buffer as it stands before every run, for a store the bytes to be stored
 pub record Turn : Type 0 where
-  pub number : ℕ
+  pub processorNumber : ℕ
   pub request : Request
   pub buffer : List ℕ
 
@@ -65,29 +72,33 @@ pub record Given : Type 0 where
   pub answer : Values
   pub buffer : List ℕ
 
-abbrev pub outcome : Settings → State → Turn → Outcome
-outcome s m t = step s (m .storage) (m .keys) (m .processors) (t .number) (t .request) (t .buffer)
+abbrev pub turnOutcome : Settings → State → Turn → PairOutcome
+turnOutcome s m t = pairStep s (m .storage) (m .keys) (m .processors) (t .processorNumber) (t .request) (t .buffer)
 
 abbrev pub next : Settings → State → Turn → State
-next s m t = let o = outcome s m t in record { storage = o .storage; keys = o .keys; processors = o .processors }
+next s m t = let o = turnOutcome s m t in record { storage = o .storage; keys = o .keys; processors = o .processors }
 
 abbrev pub given : Settings → State → Turn → Given
-given s m t = let o = outcome s m t in record { answer = o .answer; buffer = o .buffer }
+given s m t = let o = turnOutcome s m t in record { answer = o .answer; buffer = o .buffer }
 
 -- a request of processor i's list carries i, or a number that isn't 0 or 1
 abbrev pub Carries : ℕ → State → Turn → Type 0
-Carries i m t = (t .number ≡ i) ⊎ (2 ≤ t .number)
+Carries i m t = (t .processorNumber ≡ i) ⊎ (2 ≤ t .processorNumber)
 
--- a request that finds the state m names unit u, by the prefix then in force
+-- a request that finds the state m names unit u, by its record if it has one
+abbrev pub namedBy : Option Processor → Settings → ℕ → State → Turn → Bool
+namedBy none s u m t = false
+namedBy (some p) s u m t =
+    names (beforeProtection s (length (m .storage)) (length (m .keys)) p (t .request) (length (t .buffer))) s p (t .request) u
+
+-- by the prefix then in force
 abbrev pub named : Settings → ℕ → State → Turn → Bool
-named s u m t =
-    let p = own (m .processors) (t .number) in
-    names (plan s (length (m .storage)) (length (m .keys)) (t .number) p (t .request) (length (t .buffer))) s p (t .request) u
+named s u m t = namedBy (recordOf (m .processors) (t .processorNumber)) s u m t
 
 -- nothing but a fetch names as a fetch
 abbrev pub isFetch : Request → Bool
-isFetch (Access Fetch start count) = true
-isFetch (Access Store start count) = false
+isFetch (Access Fetch address count) = true
+isFetch (Access Store address count) = false
 isFetch (Key i) = false
 isFetch (Prefix i) = false
 
@@ -114,3 +125,12 @@ AnyOrder =
     → Every (next s) (Carries 1) m ys
     → ((u : ℕ) → Apart s m xs ys u)
     → (o p : Order xs ys) → run (next s) (given s) m o ≡ run (next s) (given s) m p
+
+-- the same claim against one order: whatever the order of turns, the run is that of the first list whole and then the second
+abbrev pub AsFirstThenSecond : Type 0
+AsFirstThenSecond =
+    (s : Settings) (m : State) (xs ys : List Turn)
+    → Every (next s) (Carries 0) m xs
+    → Every (next s) (Carries 1) m ys
+    → ((u : ℕ) → Apart s m xs ys u)
+    → (o : Order xs ys) → run (next s) (given s) m o ≡ run (next s) (given s) m (firstThenSecond xs ys)

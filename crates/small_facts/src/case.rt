@@ -57,14 +57,22 @@ fn case_of(request: Request) -> Case {
     }
 }
 
-pub(crate) fn fetch(start: u32, count: u32) -> Case {
+pub(crate) fn fetch(address: u32, count: u32) -> Case {
     let kind = AccessKind::Fetch;
-    case_of(Request::Access { kind, start, count })
+    case_of(Request::Access {
+        kind,
+        address,
+        count,
+    })
 }
 
-pub(crate) fn store(start: u32, count: u32) -> Case {
+pub(crate) fn store(address: u32, count: u32) -> Case {
     let kind = AccessKind::Store;
-    case_of(Request::Access { kind, start, count })
+    case_of(Request::Access {
+        kind,
+        address,
+        count,
+    })
 }
 
 pub(crate) fn key(instruction: KeyInstruction) -> Case {

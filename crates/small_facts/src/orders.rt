@@ -15,8 +15,8 @@ ghost use Prim.Native.Nat.{_<_};
 
 // A turn: the processor with this number stores a byte at a real address.
 struct Turn {
-    number: usize,
-    start: u32,
+    processor_number: usize,
+    address: u32,
     byte: u8,
 }
 
@@ -34,7 +34,7 @@ fn take(turn: Turn, storage: &mut [u8], keys: &mut [u8], processors: [Processor;
     let mut buffer = [turn.byte];
     let request = Request::Access {
         kind: AccessKind::Store,
-        start: turn.start,
+        address: turn.address,
         count: 1,
     };
     storage_unit::request(
@@ -42,7 +42,7 @@ fn take(turn: Turn, storage: &mut [u8], keys: &mut [u8], processors: [Processor;
         storage,
         keys,
         processors,
-        turn.number,
+        turn.processor_number,
         request,
         &mut buffer,
     )
@@ -62,8 +62,8 @@ fn turn_of(i: usize) -> Turn
     requires { ⌜ i < 4 ⌝ }
 {
     Turn {
-        number: i / 2,
-        start: 0,
+        processor_number: i / 2,
+        address: 0,
         byte: 1 + i as u8,
     }
 }
@@ -84,6 +84,14 @@ fn next(end: End, i: usize, storage: &mut [u8], keys: &mut [u8]) -> End
     }
 }
 
+// Two turns of fact 19, one after the other.
+fn next_two(end: End, i: usize, j: usize, storage: &mut [u8], keys: &mut [u8]) -> End
+    requires { ⌜ (i < 4) × (j < 4) ⌝ }
+{
+    let one = next(end, i, storage, keys);
+    next(one, j, storage, keys)
+}
+
 fn in_order(a: usize, b: usize, c: usize, d: usize, storage: &mut [u8], keys: &mut [u8]) -> End
     requires { ⌜ (a < 4) × (b < 4) × (c < 4) × (d < 4) ⌝ }
 {
@@ -96,10 +104,8 @@ fn in_order(a: usize, b: usize, c: usize, d: usize, storage: &mut [u8], keys: &m
         processors: pair(),
         answers: [none; 4],
     };
-    let one = next(start, a, storage, keys);
-    let two = next(one, b, storage, keys);
-    let three = next(two, c, storage, keys);
-    next(three, d, storage, keys)
+    let two = next_two(start, a, b, storage, keys);
+    next_two(two, c, d, storage, keys)
 }
 
 // The order leaves the same storage, keys and records, and gives the same answers, as processor 0's turns before processor 1's.
@@ -151,13 +157,13 @@ fn left_by(first: Turn, second: Turn) -> u8 {
 // Fact 20.
 pub(crate) fn shared() {
     let first = Turn {
-        number: 0,
-        start: 0,
+        processor_number: 0,
+        address: 0,
         byte: 1,
     };
     let second = Turn {
-        number: 1,
-        start: 4096,
+        processor_number: 1,
+        address: 4096,
         byte: 2,
     };
     number(b"20 absolute ", absolute(first));

@@ -1,3 +1,3 @@
--- The laws of the entry point.
-pub mod Prefixes
+-- Laws of this crate.
 pub mod Conditions
+pub mod Prefixes

@@ -7,16 +7,15 @@ use machine::Request;
 use machine::Served;
 use machine::Settings;
 use machine::Verdict;
+use machine::answers::answer_of;
 use machine::answers::first_of;
 use machine::answers::refuse;
+use machine::answers::stops;
 use machine::numbers::valid;
 use prefixing::prefix_of;
 ghost use mathlib.Core.Path.{_≡_};
-ghost use mathlib.Core.List.{List};
-ghost use Prim.Native.Nat.{ℕ};
-ghost use lib.ListN.{length, set};
-ghost use Rattle.machine.specs.Numbers.{own as recordOf};
-ghost use Rattle.machine.specs.Table.{installOutside, plan};
+ghost use mathlib.Core.List.{[]};
+ghost use Rattle.machine.specs.Table.{installOutside, beforeProtection};
 ghost use Rattle.machine.specs.Step.{recordLeft, prefixGiven, outcome, step};
 
 // Line 5: the block that SET PREFIX would install lies outside storage.
@@ -29,18 +28,17 @@ fn install_outside(storage_length: usize, instruction: PrefixInstruction) -> boo
     }
 }
 
-// The lines of the table that a prefix instruction can meet, p being the record of the processor with this number.
+// The lines of the table that a prefix instruction can meet.
 fn verdict(
     settings: Settings,
     storage_length: usize,
     key_length: usize,
-    number: usize,
     p: Processor,
     instruction: PrefixInstruction,
 ) -> Verdict
-    ensures { λ r. ⌜ r ≡ plan settings «storage_length» «key_length» number p (Request.Prefix instruction) 0 ⌝ }
+    ensures { λ r. ⌜ r ≡ beforeProtection settings «storage_length» «key_length» p (Request.Prefix instruction) 0 ⌝ }
 {
-    let machine = valid(settings, storage_length, key_length, number, p);
+    let machine = valid(settings, storage_length, key_length, p);
     let outside = install_outside(storage_length, instruction);
     first_of(
         machine,
@@ -71,24 +69,24 @@ fn complete(p: Processor, instruction: PrefixInstruction) -> Served
     }
 }
 
-// A prefix instruction for the processor with this number and the record p. Of storage and key array it takes the lengths alone.
+// A prefix instruction for a processor with the record p. It takes no buffer: it is the step with an empty one. Of storage and key array it
+// looks at the lengths alone.
 pub(crate) fn prefix_instruction(
     settings: Settings,
-    storage_length: usize,
-    key_length: usize,
+    storage: &[u8],
+    keys: &[u8],
     p: Processor,
-    number: usize,
     instruction: PrefixInstruction,
 ) -> Served
-    ensures { λ r. ⌜ ((storage keys : List ℕ) (ps : List Processor) (buffer : List ℕ) → length storage ≡ «storage_length» → length keys ≡ «key_length» → recordOf ps number ≡ p
-        → outcome (r .answer) storage keys (set ps number (r .processor)) buffer ≡ step settings storage keys ps number (Request.Prefix instruction) buffer) ⌝ }
+    ensures { λ r. ⌜ outcome (r .answer) (now (storage .entry)) (now (keys .entry)) (r .processor) []
+        ≡ step settings (now (storage .entry)) (now (keys .entry)) p (Request.Prefix instruction) [] ⌝ }
 {
-    let found = verdict(settings, storage_length, key_length, number, p, instruction);
-    match found {
-        Verdict::Clear => complete(p, instruction),
-        Verdict::Stop { reason, place } => Served {
-            answer: Answer::Refused { reason, place },
+    let found = verdict(settings, storage.len(), keys.len(), p, instruction);
+    if stops(found) {
+        return Served {
+            answer: answer_of(found, 0),
             processor: p,
-        },
+        };
     }
+    complete(p, instruction)
 }

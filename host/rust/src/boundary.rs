@@ -26,7 +26,7 @@ pub type RawRequest = unsafe extern "C" fn(
     keys_length: usize,
     records: *mut u8,
     records_length: usize,
-    processor: u32,
+    processor_number: u32,
     operation: u32,
     first: u32,
     second: u32,
@@ -171,10 +171,10 @@ pub const fn encode_request(request: &Request) -> (u32, u32, u32) {
         Request::Access {
             kind,
             address,
-            length,
+            count,
         } => match kind {
-            AccessKind::Fetch => (FETCH, address, length),
-            AccessKind::Store => (STORE, address, length),
+            AccessKind::Fetch => (FETCH, address, count),
+            AccessKind::Store => (STORE, address, count),
         },
         Request::Key(instruction) => match instruction {
             KeyInstruction::Isk { r1, r2 } => (ISK, r1, r2),
@@ -192,7 +192,7 @@ pub const fn encode_request(request: &Request) -> (u32, u32, u32) {
 }
 
 /// The request from operation number and operands. A number that no operation has is
-/// taken for a fetch of length 0, which is refused with [`Number::Operand`].
+/// taken for a fetch of count 0, which is refused with [`Number::Operand`].
 #[inline]
 pub const fn decode_request(operation: u32, first: u32, second: u32) -> Request {
     match operation {
@@ -248,8 +248,8 @@ pub const fn decode_answer(packed: u64) -> Option<Answer> {
     }
 }
 
-/// Calls a C function with slices: settings, storage, keys, records, the processor's
-/// number, operation with first and second operand, buffer.
+/// Calls a C function with slices: settings, storage, keys, records, processor number,
+/// operation with first and second operand, buffer.
 ///
 /// # Safety
 ///
@@ -262,7 +262,7 @@ pub unsafe fn call_raw(
     storage: &mut [u8],
     keys: &mut [u8],
     records: &mut [u8],
-    processor: u32,
+    processor_number: u32,
     (operation, first, second): (u32, u32, u32),
     buffer: &mut [u8],
 ) -> u64 {
@@ -278,7 +278,7 @@ pub unsafe fn call_raw(
             keys.len(),
             records.as_mut_ptr(),
             records.len(),
-            processor,
+            processor_number,
             operation,
             first,
             second,
@@ -305,7 +305,7 @@ pub unsafe fn call(
     storage: &mut [u8],
     keys: &mut [u8],
     processors: &mut [Processor; 2],
-    processor: u32,
+    processor_number: u32,
     request: &Request,
     buffer: &mut [u8],
 ) -> Answer {
@@ -319,7 +319,7 @@ pub unsafe fn call(
             storage,
             keys,
             &mut records,
-            processor,
+            processor_number,
             encode_request(request),
             buffer,
         )

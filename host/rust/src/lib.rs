@@ -202,7 +202,7 @@ pub enum Request {
         /// The real address of the first byte, below 16,777,216.
         address: u32,
         /// The number of bytes, 1 to 256.
-        length: u32,
+        count: u32,
     },
     /// A storage-key instruction.
     Key(KeyInstruction),
@@ -211,23 +211,23 @@ pub enum Request {
 }
 
 impl Request {
-    /// A fetch of `length` bytes from real address `address`.
+    /// A fetch of `count` bytes from real address `address`.
     #[inline]
-    pub const fn fetch(address: u32, length: u32) -> Self {
+    pub const fn fetch(address: u32, count: u32) -> Self {
         Request::Access {
             kind: AccessKind::Fetch,
             address,
-            length,
+            count,
         }
     }
 
-    /// A store of `length` bytes to real address `address`.
+    /// A store of `count` bytes to real address `address`.
     #[inline]
-    pub const fn store(address: u32, length: u32) -> Self {
+    pub const fn store(address: u32, count: u32) -> Self {
         Request::Access {
             kind: AccessKind::Store,
             address,
-            length,
+            count,
         }
     }
 }
@@ -258,7 +258,7 @@ pub enum Number {
     /// 65: there is no such processor, or its record holds a value that no
     /// processor has.
     Record = 65,
-    /// 66: an access length, an address or the length of the buffer is wrong.
+    /// 66: the count of an access, an address or the length of the buffer is wrong.
     Operand = 66,
     /// 67: a real address is inside storage and its absolute address is outside.
     /// No state gives this number, since a prefix outside storage gives 65.
@@ -358,8 +358,15 @@ impl Answer {
 /// records of both processors, the number of the processor that asks, the request and its
 /// buffer. A fetch writes the first bytes of the buffer, a store reads them; the other
 /// requests do not use it.
-pub type RequestFunction =
-    fn(Settings, &mut [u8], &mut [u8], &mut [Processor; 2], u32, &Request, &mut [u8]) -> Answer;
+pub type RequestFunction = fn(
+    settings: Settings,
+    storage: &mut [u8],
+    keys: &mut [u8],
+    processors: &mut [Processor; 2],
+    processor_number: u32,
+    request: &Request,
+    buffer: &mut [u8],
+) -> Answer;
 
 /// An implementation of the storage unit.
 ///

@@ -1,6 +1,6 @@
 //! The storage unit as ordinary Rust, for comparison of speed.
 //!
-//! An access is split where it passes from one key unit to the next, each part is
+//! An access is split where it passes from one key unit to the next, each span is
 //! checked once, and the bytes are copied as slices.
 
 use crate::{
@@ -52,11 +52,11 @@ pub fn request(
     storage: &mut [u8],
     keys: &mut [u8],
     processors: &mut [Processor; 2],
-    processor: u32,
+    processor_number: u32,
     request: &Request,
     buffer: &mut [u8],
 ) -> Answer {
-    let own = processors.get_mut(processor as usize);
+    let own = processors.get_mut(processor_number as usize);
     request_with_record(settings, storage, keys, own, request, buffer)
 }
 
@@ -93,16 +93,8 @@ fn request_with_record(
         Request::Access {
             kind,
             address,
-            length,
-        } => access(
-            settings,
-            storage,
-            keys,
-            own,
-            kind,
-            (address, length),
-            buffer,
-        ),
+            count,
+        } => access(settings, storage, keys, own, kind, (address, count), buffer),
         Request::Key(instruction) => {
             key_instruction(settings, storage.len(), keys, own, instruction)
         }
@@ -110,27 +102,27 @@ fn request_with_record(
     }
 }
 
-/// The part of an access that lies in one key unit.
-struct Part {
+/// The span of an access in one key unit.
+struct Span {
     real: u32,
     absolute: usize,
     unit: usize,
-    length: usize,
+    byte_count: usize,
 }
 
-impl Part {
+impl Span {
     #[inline]
-    fn new(settings: Settings, own: &Processor, real: u32, length: usize) -> Part {
+    fn new(settings: Settings, own: &Processor, real: u32, byte_count: usize) -> Span {
         let absolute = prefixed(real, own.prefix) as usize;
-        Part {
+        Span {
             real,
             absolute,
             unit: absolute >> unit_shift(settings),
-            length,
+            byte_count,
         }
     }
 
-    /// Whether the processor may access the part. If it may not, its first byte is
+    /// Whether the processor may access the span. If it may not, its first byte is
     /// forbidden.
     #[inline]
     fn permitted(&self, keys: &[u8], own: &Processor, kind: AccessKind) -> bool {
@@ -142,10 +134,10 @@ impl Part {
         }
     }
 
-    /// Copies the bytes of the part and records the access in the key.
+    /// Copies the bytes of the span and records the access in the key.
     #[inline]
     fn perform(&self, storage: &mut [u8], keys: &mut [u8], kind: AccessKind, buffer: &mut [u8]) {
-        let bytes = &mut storage[self.absolute..self.absolute + self.length];
+        let bytes = &mut storage[self.absolute..self.absolute + self.byte_count];
         let key = &mut keys[self.unit];
         match kind {
             AccessKind::Fetch => {
@@ -167,11 +159,11 @@ fn access(
     keys: &mut [u8],
     own: &Processor,
     kind: AccessKind,
-    (address, length): (u32, u32),
+    (address, count): (u32, u32),
     buffer: &mut [u8],
 ) -> Answer {
-    let count = length as usize;
-    if count == 0 || count > 256 || address > ADDRESS_MASK || buffer.len() < count {
+    let byte_count = count as usize;
+    if byte_count == 0 || byte_count > 256 || address > ADDRESS_MASK || buffer.len() < byte_count {
         return Answer::refused(Number::Operand, 0);
     }
     let start = address as usize;
@@ -179,23 +171,23 @@ fn access(
         return Answer::refused(Number::Addressing, 0);
     }
     // In a storage of the full size an access past the end goes on at address 0.
-    if start + count > storage.len() && storage.len() < MAXIMUM_STORAGE {
+    if start + byte_count > storage.len() && storage.len() < MAXIMUM_STORAGE {
         return Answer::refused(Number::Addressing, (storage.len() - start) as u16);
     }
 
-    let buffer = &mut buffer[..count];
+    let buffer = &mut buffer[..byte_count];
     let unit = settings.key_unit();
     let room = unit - start % unit;
-    if count <= room {
-        let part = Part::new(settings, own, address, count);
-        if !part.permitted(keys, own, kind) {
+    if byte_count <= room {
+        let span = Span::new(settings, own, address, byte_count);
+        if !span.permitted(keys, own, kind) {
             return Answer::refused(Number::Protection, 0);
         }
-        part.perform(storage, keys, kind, buffer);
+        span.perform(storage, keys, kind, buffer);
     } else {
         let second_address = (address + room as u32) & ADDRESS_MASK;
-        let first = Part::new(settings, own, address, room);
-        let second = Part::new(settings, own, second_address, count - room);
+        let first = Span::new(settings, own, address, room);
+        let second = Span::new(settings, own, second_address, byte_count - room);
         if !first.permitted(keys, own, kind) {
             return Answer::refused(Number::Protection, 0);
         }
@@ -312,7 +304,7 @@ pub unsafe extern "C" fn storage_unit_request_plain(
     keys_length: usize,
     records: *mut u8,
     records_length: usize,
-    processor: u32,
+    processor_number: u32,
     operation: u32,
     first: u32,
     second: u32,
@@ -336,7 +328,7 @@ pub unsafe extern "C" fn storage_unit_request_plain(
         boundary::RECORDS_LENGTH => records.as_chunks_mut().0,
         _ => &mut [],
     };
-    let record = records.get_mut(processor as usize);
+    let record = records.get_mut(processor_number as usize);
     let mut own = record.as_deref().map(boundary::decode_processor);
     let answer = request_with_record(settings, storage, keys, own.as_mut(), &request, buffer);
     if let (Some(record), Some(own), Number::Completed) = (record, own, answer.number) {
@@ -375,7 +367,7 @@ pub fn request_behind_boundary(
     storage: &mut [u8],
     keys: &mut [u8],
     processors: &mut [Processor; 2],
-    processor: u32,
+    processor_number: u32,
     request: &Request,
     buffer: &mut [u8],
 ) -> Answer {
@@ -387,7 +379,7 @@ pub fn request_behind_boundary(
             storage,
             keys,
             processors,
-            processor,
+            processor_number,
             request,
             buffer,
         )

@@ -16,7 +16,7 @@ extern "C" {
         keys_length: usize,
         records: *mut u8,
         records_length: usize,
-        processor: u32,
+        processor_number: u32,
         operation: u32,
         first: u32,
         second: u32,
@@ -29,10 +29,10 @@ extern "C" {
 ///
 /// `storage` is a multiple of 4,096 bytes, from 4,096 to 16,777,216, and `keys`
 /// has [`Settings::key_count`] bytes, one for each key unit by absolute address.
-/// `processors` holds the records of processors 0 and 1, and `processor` is the
-/// number of the one that asks. A fetch writes the first bytes of `buffer`, up to
-/// its length, and keeps the rest; a store reads the first bytes and ignores the
-/// rest; the other requests do not use `buffer`, which can be empty.
+/// `processors` holds the records of processors 0 and 1, and `processor_number` is
+/// the number of the one that asks. A fetch writes the first bytes of `buffer`, as
+/// many as its count, and keeps the rest; a store reads the first bytes and ignores
+/// the rest; the other requests do not use `buffer`, which can be empty.
 ///
 /// Values outside these limits are allowed and are answered with
 /// [`Number::Configuration`](crate::Number::Configuration),
@@ -68,7 +68,7 @@ pub fn request(
     storage: &mut [u8],
     keys: &mut [u8],
     processors: &mut [Processor; 2],
-    processor: u32,
+    processor_number: u32,
     request: &Request,
     buffer: &mut [u8],
 ) -> Answer {
@@ -80,7 +80,7 @@ pub fn request(
             storage,
             keys,
             processors,
-            processor,
+            processor_number,
             request,
             buffer,
         )

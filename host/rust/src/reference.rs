@@ -118,7 +118,7 @@ struct Situation<'a> {
     storage_length: usize,
     keys: &'a [u8],
     processors: &'a [Processor; 2],
-    processor: u32,
+    processor_number: u32,
     request: &'a Request,
     buffer_length: usize,
 }
@@ -126,7 +126,7 @@ struct Situation<'a> {
 impl Situation<'_> {
     /// The record of the processor that asks. Used after line 65 only.
     fn own(&self) -> &Processor {
-        &self.processors[self.processor as usize]
+        &self.processors[self.processor_number as usize]
     }
 
     fn outside(&self, address: u32) -> bool {
@@ -188,7 +188,7 @@ fn line_64(situation: &Situation) -> Option<u16> {
 
 /// The processor number is not 0 or 1, or that processor's own record is bad.
 fn line_65(situation: &Situation) -> Option<u16> {
-    if situation.processor != 0 && situation.processor != 1 {
+    if situation.processor_number != 0 && situation.processor_number != 1 {
         return Some(0);
     }
     let own = situation.own();
@@ -197,16 +197,14 @@ fn line_65(situation: &Situation) -> Option<u16> {
     place_0_if(own.key > 15 || own.code > 3 || !prefix_good)
 }
 
-/// Access length, access or RRB address, or the buffer is bad.
+/// Access count, access or RRB address, or the buffer is bad.
 fn line_66(situation: &Situation) -> Option<u16> {
     match *situation.request {
-        Request::Access {
-            address, length, ..
-        } => place_0_if(
-            length == 0
-                || length > 256
+        Request::Access { address, count, .. } => place_0_if(
+            count == 0
+                || count > 256
                 || address >= ADDRESSES_24
-                || situation.buffer_length < length as usize,
+                || situation.buffer_length < count as usize,
         ),
         Request::Key(KeyInstruction::Rrb { address }) => place_0_if(address >= ADDRESSES_24),
         Request::Key(_) | Request::Prefix(_) => None,
@@ -254,10 +252,8 @@ fn line_6(situation: &Situation) -> Option<u16> {
 /// A real address, or the block SET PREFIX would install, lies outside storage.
 fn line_5(situation: &Situation) -> Option<u16> {
     match *situation.request {
-        Request::Access {
-            address, length, ..
-        } => {
-            for offset in 0..length {
+        Request::Access { address, count, .. } => {
+            for offset in 0..count {
                 if situation.outside(real_address(address, offset)) {
                     return Some(offset as u16);
                 }
@@ -278,10 +274,8 @@ fn line_5(situation: &Situation) -> Option<u16> {
 fn line_67(situation: &Situation) -> Option<u16> {
     let prefix = situation.own().prefix;
     match *situation.request {
-        Request::Access {
-            address, length, ..
-        } => {
-            for offset in 0..length {
+        Request::Access { address, count, .. } => {
+            for offset in 0..count {
                 let real = real_address(address, offset);
                 let absolute = absolute_address(real, prefix);
                 if !situation.outside(real) && situation.outside(absolute) {
@@ -305,9 +299,9 @@ fn line_4(situation: &Situation) -> Option<u16> {
         Request::Access {
             kind,
             address,
-            length,
+            count,
         } => {
-            for offset in 0..length {
+            for offset in 0..count {
                 if situation.forbidden(kind, real_address(address, offset)) {
                     return Some(offset as u16);
                 }
@@ -325,7 +319,7 @@ pub fn request(
     storage: &mut [u8],
     keys: &mut [u8],
     processors: &mut [Processor; 2],
-    processor: u32,
+    processor_number: u32,
     request: &Request,
     buffer: &mut [u8],
 ) -> Answer {
@@ -334,7 +328,7 @@ pub fn request(
         storage_length: storage.len(),
         keys,
         processors,
-        processor,
+        processor_number,
         request,
         buffer_length: buffer.len(),
     };
@@ -345,14 +339,14 @@ pub fn request(
     }
 
     // No line refuses the request. What follows changes the state.
-    let own = &mut processors[processor as usize];
+    let own = &mut processors[processor_number as usize];
     match *request {
         Request::Access {
             kind,
             address,
-            length,
+            count,
         } => {
-            for offset in 0..length {
+            for offset in 0..count {
                 let real = real_address(address, offset);
                 let absolute = absolute_address(real, own.prefix);
                 let unit = unit_of(settings, absolute);
@@ -457,13 +451,8 @@ pub fn units_named(
 ) -> Vec<usize> {
     let mut units = Vec::new();
     match (request, number) {
-        (
-            &Request::Access {
-                address, length, ..
-            },
-            Number::Completed | Number::Protection,
-        ) => {
-            for offset in 0..length {
+        (&Request::Access { address, count, .. }, Number::Completed | Number::Protection) => {
+            for offset in 0..count {
                 let absolute = absolute_address(real_address(address, offset), own.prefix);
                 units.push(unit_of(settings, absolute));
             }

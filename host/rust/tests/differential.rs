@@ -215,14 +215,14 @@ fn events_of(
         Request::Access {
             kind,
             address,
-            length,
+            count,
         } => {
             met.set(
                 Event::BufferOneShort,
                 answer.number == Number::Operand
-                    && (1..=256).contains(&length)
+                    && (1..=256).contains(&count)
                     && address < ADDRESSES_24
-                    && asked.buffer_length + 1 == length as usize,
+                    && asked.buffer_length + 1 == count as usize,
             );
             if !completed && answer.number != Number::Protection {
                 met.set(
@@ -232,7 +232,7 @@ fn events_of(
                 return met;
             }
             let fetch = kind == AccessKind::Fetch;
-            let last = (address + length - 1) % ADDRESSES_24;
+            let last = (address + count - 1) % ADDRESSES_24;
             let unit = settings.key_unit() as u32;
             let key = keys_before[(absolute(address, own.prefix) / unit) as usize];
             let last_key = keys_before[(absolute(last, own.prefix) / unit) as usize];
@@ -242,7 +242,7 @@ fn events_of(
                 page if page == own.prefix / 4096 => 2,
                 _ => 3,
             };
-            let past_end = address + length > ADDRESSES_24;
+            let past_end = address + count > ADDRESSES_24;
             let low_store = !fetch && own.low_protection;
             if completed {
                 met.set(Event::CompletedPastEnd, past_end);
@@ -263,11 +263,11 @@ fn events_of(
                 met.set(Event::StoreClearedBit7, !fetch && (key | last_key) & 1 != 0);
                 met.set(
                     Event::LongFetchBuffer,
-                    fetch && asked.buffer_length > length as usize,
+                    fetch && asked.buffer_length > count as usize,
                 );
                 met.set(
                     Event::LongStoreBuffer,
-                    !fetch && asked.buffer_length > length as usize,
+                    !fetch && asked.buffer_length > count as usize,
                 );
             } else {
                 met.set(
@@ -536,12 +536,9 @@ fn random_lengths(random: &mut Random, side: &Side, length: usize, keys: usize) 
 }
 
 fn compare_storage(expected: &Side, actual: &Side, asked: &Asked, prefix: u32) {
-    if let Request::Access {
-        address, length, ..
-    } = asked.request
-    {
+    if let Request::Access { address, count, .. } = asked.request {
         let first = address % ADDRESSES_24;
-        let last = first.wrapping_add(length.clamp(1, 256) - 1) % ADDRESSES_24;
+        let last = first.wrapping_add(count.clamp(1, 256) - 1) % ADDRESSES_24;
         for address in [first, last] {
             compare_around(expected, actual, address);
             if prefix < ADDRESSES_24 {

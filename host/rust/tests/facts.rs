@@ -221,8 +221,8 @@ fn fact_16<U: Unit>() {
 fn fact_17<U: Unit>() {
     let before = usual();
     let buffer = new_bytes(1000);
-    for length in [0, 257] {
-        for request in [Request::fetch(0, length), Request::store(0, length)] {
+    for count in [0, 257] {
+        for request in [Request::fetch(0, count), Request::store(0, count)] {
             refused::<U>(&before, request, &buffer, Number::Operand, 0);
         }
     }

@@ -387,7 +387,7 @@ fn outside_before_forbidden<U: Unit>() {
 /// An access that starts outside a small storage has place 0, also if it would go on
 /// at address 0.
 fn start_outside<U: Unit>() {
-    for (address, length, place) in [
+    for (address, count, place) in [
         (65_536, 1, 0),
         (65_536, 256, 0),
         (16_777_215, 256, 0),
@@ -396,7 +396,7 @@ fn start_outside<U: Unit>() {
     ] {
         refused::<U>(
             &usual(),
-            Request::fetch(address, length),
+            Request::fetch(address, count),
             &[7; 256],
             Number::Addressing,
             place,
@@ -600,10 +600,10 @@ fn bit_7_and_accesses<U: Unit>() {
 fn low_address_protection<U: Unit>() {
     let mut before = with_prefix(8192);
     before.processors[0].low_protection = true;
-    for (address, length) in [(0, 1), (511, 256), (256, 256), (0, 256)] {
+    for (address, count) in [(0, 1), (511, 256), (256, 256), (0, 256)] {
         refused::<U>(
             &before,
-            Request::store(address, length),
+            Request::store(address, count),
             &[7; 256],
             Number::Protection,
             0,

@@ -1,19 +1,13 @@
--- `access` is `fetch` or `store`, by its kind. Assumes nothing.
+-- `access` gives the answer by the verdict that `perform` found. Assumes nothing.
 use borrow.Author.Needs.{needs}
 use Rattle.access.proofs.access.Statement.{statement}
 use Rattle.access.proofs.access.Tie as tie
 
-enum-told : tie.Need-enum-told
-enum-told c = search needs
+perform-requires : tie.Need-perform-requires
+perform-requires c κs = tt
 
-fetch-requires : tie.Need-fetch-requires
-fetch-requires c κs = search needs
-
-enum-told-2 : tie.Need-enum-told-2
-enum-told-2 c = search needs
-
-store-requires : tie.Need-store-requires
-store-requires c κs = search needs
+answer-of-requires : tie.Need-answer-of-requires
+answer-of-requires c κs = tt
 
 same-length : tie.Need-same-length
 same-length c = search needs
@@ -25,33 +19,13 @@ same-length-3 : tie.Need-same-length-3
 same-length-3 c = search needs
 
 returns : tie.Need-returns
-returns c = rw (c .before .before .before .before .before .before .before .before .enum-told .given .1) (c .before .before .before .before .fetch .ensures)
-
-same-length-4 : tie.Need-same-length-4
-same-length-4 c = search needs
-
-same-length-5 : tie.Need-same-length-5
-same-length-5 c = search needs
-
-same-length-6 : tie.Need-same-length-6
-same-length-6 c = search needs
-
-returns-2 : tie.Need-returns-2
-returns-2 c = rw (c .before .before .before .before .before .before .before .before .enum-told2 .given .1) (c .before .before .before .before .store .ensures)
+returns c =
+    let buffer-back = c .before .before in
+    let keys-back = buffer-back .before .before in
+    let storage-back = keys-back .before .before in
+    rw (c .answer-of .ensures) (storage-back .before .perform .ensures)
 
 pub access-spec : {M : Type 1} → statement M
 access-spec =
     tie.close
-    (tie.spec
-    enum-told
-    fetch-requires
-    enum-told-2
-    store-requires
-    same-length
-    same-length-2
-    same-length-3
-    returns
-    same-length-4
-    same-length-5
-    same-length-6
-    returns-2)
+    (tie.spec perform-requires answer-of-requires same-length same-length-2 same-length-3 returns)

@@ -1,12 +1,11 @@
--- `storage_unit_request` is the call: by the settings, then by whether the request has a processor. Assumes nothing.
+-- `storage_unit_request` is the call: by the settings, then by whether the request has a record. Assumes nothing.
 use mathlib.Core.Path.{refl}
-use native.Mathlib.Omega.{arith}
 use borrow.Author.Tests.{lt-ltb, le-ltb, ltb-true, eqb-true}
 use Rattle.machine.specs.declared.Answer.the-variants.{Refused}
 use Rattle.machine.specs.declared.Reason.the-variants.{Configuration}
 use Rattle.machine.proofs.Verdicts.{both}
-use Rattle.host.specs.Boundary.{called}
-use Rattle.host.proofs.Calls.{nothing-changes, no-processor-call}
+use Rattle.host.specs.Boundary.{calledWith, called}
+use Rattle.host.proofs.Calls.{nothing-changes}
 use borrow.Author.Needs.{needs}
 use Rattle.host.proofs.storage_unit_request.Statement.{statement}
 use Rattle.host.proofs.storage_unit_request.Tie as tie
@@ -22,10 +21,16 @@ settings-of-requires : tie.Need-settings-of-requires
 settings-of-requires c κs = search needs
 
 serve-bytes-requires : tie.Need-serve-bytes-requires
-serve-bytes-requires c κs = let (sixteen, one) = both _ _ (c .before .before .before .before .if2 .taken) in (eqb-true _ _ sixteen, ltb-true _ _ one)
+serve-bytes-requires c κs =
+    let lent = c .before .before in
+    let (sixteen, one) = both _ _ (lent .before .before .if2 .taken) in
+    (eqb-true _ _ sixteen, ltb-true _ _ one)
 
-no-processor-requires : tie.Need-no-processor-requires
-no-processor-requires c κs = search needs
+without-record-requires : tie.Need-without-record-requires
+without-record-requires c κs = search needs
+
+answer-of-requires : tie.Need-answer-of-requires
+answer-of-requires c κs = search needs
 
 pack-requires-2 : tie.Need-pack-requires-2
 pack-requires-2 c κs = search needs
@@ -43,12 +48,34 @@ same-length-4 : tie.Need-same-length-4
 same-length-4 c = search needs
 
 returns-2 : tie.Need-returns-2
-unfolding called
-returns-2 c = rw (lt-ltb _ _ (c .before .before .before .before .before .before .before .before .before .before .before .before .before .before .before .if1 .left), c .before .before .before .before .before .before .before .before .before .before .before .before .before .if2 .taken) (c .before .before .before .before .before .before .before .before .serve-bytes .ensures .0, rw (c .before .before .before .before .before .before .before .before .before .before .before .before .before .before .settings-of .ensures) at (c .before .before .before .before .before .before .before .before .serve-bytes .ensures .1))
+unfolding called calledWith
+returns-2 c =
+    let records-back = c .before .before in
+    let keys-back = records-back .before .before in
+    let storage-back = keys-back .before .before in
+    let served = storage-back .before .before in
+    let lent = served .before .before in
+    let has-record = lent .before .before .before in
+    let settled = has-record .before in
+    rw (lt-ltb _ _ (settled .before .if1 .left), has-record .if2 .taken) (rw (settled .settings-of .ensures) at (served .serve-bytes .ensures))
 
 returns-3 : tie.Need-returns-3
-unfolding called
-returns-3 c = (nothing-changes (c .before .no-processor .result) (c .pack2 .ensures) refl refl refl refl, rw (c .pack2 .ensures .0, c .before .no-processor .ensures, c .before .before .before .settings-of .ensures, lt-ltb _ _ (c .before .before .before .before .if1 .left), c .before .before .if2 .left) (no-processor-call (c .before .before .before .before .before .before .before .before .before .args .records .now) _ _ _ _ _ _ (omega arith)))
+unfolding called calledWith
+returns-3 c =
+    let answered = c .before in
+    let refused = answered .before in
+    let no-record = refused .before in
+    let settled = no-record .before in (
+      nothing-changes (answered .answer-of .result) (c .pack2 .ensures) refl refl refl refl,
+      rw (
+        c .pack2 .ensures .0,
+        answered .answer-of .ensures,
+        refused .without-record .ensures,
+        settled .settings-of .ensures,
+        lt-ltb _ _ (settled .before .if1 .left),
+        no-record .if2 .left,
+      ),
+    )
 
 pub storage-unit-request-spec : {M : Type 1} → statement M
 storage-unit-request-spec =
@@ -58,7 +85,8 @@ storage-unit-request-spec =
     returns
     settings-of-requires
     serve-bytes-requires
-    no-processor-requires
+    without-record-requires
+    answer-of-requires
     pack-requires-2
     same-length
     same-length-2

@@ -28,21 +28,29 @@ same-length c = search needs
 
 returns : tie.Need-returns
 unfolding keysLeft codeLeft
-returns c = rw (c .insert .ensures, c .before .before .before .operation .given .1) (refl, (refl, refl))
+returns c =
+    let told = c .before .before in
+    rw (c .insert .ensures, told .before .operation .given .1) (refl, (refl, refl))
 
 same-length-2 : tie.Need-same-length-2
 same-length-2 c = search needs
 
 returns-2 : tie.Need-returns-2
 unfolding wordGiven codeLeft
-returns-2 c = rw (c .before .before .before .before .before .operation2 .given .1) (refl, (c .before .before .set .ensures, refl))
+returns-2 c =
+    let done = c .before .before in
+    let told = done .before .before in
+    rw (told .before .operation2 .given .1) (refl, (done .set .ensures, refl))
 
 same-length-3 : tie.Need-same-length-3
 same-length-3 c = search needs
 
 returns-3 : tie.Need-returns-3
 unfolding wordGiven codeLeft
-returns-3 c = rw (c .before .before .before .before .enum-told .given .1) (refl, (c .before .before .reset .ensures .0, rw (c .before .before .reset .ensures .1)))
+returns-3 c =
+    let done = c .before .before in
+    let (keys, code) = done .reset .ensures in
+    rw (done .before .before .enum-told .given .1) (refl, (keys, rw code))
 
 pub perform-spec : {M : Type 1} → statement M
 perform-spec =

@@ -1,7 +1,8 @@
--- `joined` is the rules' join of two keys, in fewer operations. Assumes nothing.
+-- `joined` is the rules' join of two keys, in fewer operations: access control and fetch protection are taken together. Assumes nothing.
+use Prim.Native.Nat.{_+_, _*_, _/_}
+use mathlib.Core.Path.{_≡_}
 use native.Mathlib.Omega.{arith}
-use Rattle.storage_key.proofs.Bits.{upper-bits}
-use Rattle.machine.specs.Key.{joined}
+use Rattle.machine.specs.Key.{accessControl, fetchProtection, joined}
 use borrow.Author.Needs.{needs}
 use Rattle.storage_key.proofs.joined.Statement.{statement}
 use Rattle.storage_key.proofs.joined.Tie as tie
@@ -29,7 +30,11 @@ add-result-2 c = search needs
 
 returns : tie.Need-returns
 unfolding joined
-returns c = rw (c .either2 .ensures, c .before .either .ensures, upper-bits (c .before .before .args .low) (omega arith))
+returns c =
+    let referenced = c .before in
+    let low = referenced .before .args .low in
+    let upper : low / 8 * 8 ≡ accessControl low * 16 + fetchProtection low * 8 = omega arith in
+    rw (c .either2 .ensures, referenced .either .ensures, ← upper)
 
 pub joined-spec : {M : Type 1} → statement M
 joined-spec =

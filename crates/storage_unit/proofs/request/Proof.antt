@@ -1,14 +1,16 @@
--- `request` replaces the processor's own record in the pair by what `serve` leaves. Assumes nothing.
-use mathlib.Core.Path.{sym}
+-- `request` serves the processor by its own record and puts it back into the pair; a number that isn't 0 or 1 is refused. Assumes nothing.
+use mathlib.Core.Path.{refl}
 use native.Mathlib.Omega.{arith}
-use lib.Seq.{set-out}
-use Rattle.storage_unit.proofs.Conditions.{with-condition-1}
+use Rattle.storage_unit.proofs.Conditions.{both-of-served, both-without-record}
 use borrow.Author.Needs.{needs}
 use Rattle.storage_unit.proofs.request.Statement.{statement}
 use Rattle.storage_unit.proofs.request.Tie as tie
 
-own-requires : tie.Need-own-requires
-own-requires c κs = search needs
+mul-p : tie.Need-mul-p
+mul-p c = search needs
+
+array-copy-out-p : tie.Need-array-copy-out-p
+array-copy-out-p c = search needs
 
 serve-requires : tie.Need-serve-requires
 serve-requires c κs = search needs
@@ -29,25 +31,34 @@ same-length-3 : tie.Need-same-length-3
 same-length-3 c = search needs
 
 returns : tie.Need-returns
-returns c = with-condition-1 _ _ _ _ _ _ _ _ _ _ _ _ (c .before .before .before .before .before .before .before .before .serve .ensures _ (sym (c .before .before .before .before .before .before .before .before .before .before .own .ensures)))
+returns c =
+    let buffer-back = c .before .before in
+    let keys-back = buffer-back .before .before in
+    let storage-back = keys-back .before .before in
+    let served = storage-back .before in
+    let lent = served .before .before in
+    let copied = lent .before .before in
+    let known = copied .before .before in
+    let start = known .before .before .before in
+    both-of-served _ _ _ _ _ _ _ _ _ _ _ _ _ _ (copied .before .if1 .taken) (omega (arith, start .good)) refl (served .serve .ensures)
 
-same-length-4 : tie.Need-same-length-4
-same-length-4 c = search needs
+without-record-requires : tie.Need-without-record-requires
+without-record-requires c κs = search needs
 
-same-length-5 : tie.Need-same-length-5
-same-length-5 c = search needs
-
-same-length-6 : tie.Need-same-length-6
-same-length-6 c = search needs
+answer-of-requires : tie.Need-answer-of-requires
+answer-of-requires c κs = search needs
 
 returns-2 : tie.Need-returns-2
-returns-2 c = with-condition-1 _ _ _ _ _ _ _ _ _ _ _ _ (rw (set-out (c .before .before .before .before .before .before .before .before .before .before .before .before .before .before .before .before .args .processors) (c .before .before .before .before .before .before .before .before .before .before .before .before .before .before .before .before .args .number) (c .before .before .before .before .before .before .before .before .serve .result .processor) (omega (arith, c .before .before .before .before .before .before .before .before .before .before .before .before .before .before .before .before .good))) at (c .before .before .before .before .before .before .before .before .serve .ensures (c .before .before .before .before .before .before .before .before .before .before .before .before .before .before .before .before .args .processors) (sym (c .before .before .before .before .before .before .before .before .before .before .own .ensures))))
+returns-2 c =
+    let refused = c .before in
+    both-without-record _ _ _ _ _ _ _ _ (rw (refused .without-record .ensures) at (c .answer-of .ensures)) (refused .before .if1 .left)
 
 pub request-spec : {M : Type 1} → statement M
 request-spec =
     tie.close
     (tie.spec
-    own-requires
+    mul-p
+    array-copy-out-p
     serve-requires
     mul-next
     array-set-from-next
@@ -55,7 +66,6 @@ request-spec =
     same-length-2
     same-length-3
     returns
-    same-length-4
-    same-length-5
-    same-length-6
+    without-record-requires
+    answer-of-requires
     returns-2)

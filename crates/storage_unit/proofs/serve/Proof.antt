@@ -1,6 +1,5 @@
--- `serve` is the step: by the family of the request. Assumes nothing.
-use mathlib.Core.Path.{refl}
-use Rattle.machine.proofs.Requests.{own-put-back}
+-- `serve` is the step: by the family of the request. An access leaves the record; the instructions look at no buffer. Assumes nothing.
+use Rattle.machine.proofs.Requests.{with-any-buffer}
 use borrow.Author.Needs.{needs}
 use Rattle.storage_unit.proofs.serve.Statement.{statement}
 use Rattle.storage_unit.proofs.serve.Tie as tie
@@ -33,16 +32,38 @@ same-length-3 : tie.Need-same-length-3
 same-length-3 c = search needs
 
 returns : tie.Need-returns
-returns c = λ ps e. rw (c .before .before .before .before .before .before .before .before .before .before .before .request .given .1, own-put-back ps _ _ e) (c .before .before .before .before .before .before .access .ensures ps e)
+returns c =
+    let keys-back = c .before .before in
+    let storage-back = keys-back .before .before in
+    let accessed = storage-back .before .before in
+    let lent = accessed .before .before in
+    let told = lent .before .before in
+    rw (told .before .request .given .1) (accessed .access .ensures)
 
 same-length-4 : tie.Need-same-length-4
 same-length-4 c = search needs
 
+same-length-5 : tie.Need-same-length-5
+same-length-5 c = search needs
+
 returns-2 : tie.Need-returns-2
-returns-2 c = λ ps e. rw (c .before .before .before .before .before .request2 .given .1) (c .before .before .key-instruction .ensures _ ps _ refl e)
+returns-2 c =
+    let performed = c .before .before in
+    let lent = performed .before .before in
+    rw (lent .before .before .request2 .given .1)
+    (with-any-buffer _ _ _ _ _ _ tt (performed .key-instruction .ensures))
+
+same-length-6 : tie.Need-same-length-6
+same-length-6 c = search needs
+
+same-length-7 : tie.Need-same-length-7
+same-length-7 c = search needs
 
 returns-3 : tie.Need-returns-3
-returns-3 c = λ ps e. rw (c .before .before .request3 .given .1) (c .prefix-instruction .ensures _ _ ps _ refl refl e)
+returns-3 c =
+    let lent = c .before .before in
+    rw (lent .before .before .request3 .given .1)
+    (with-any-buffer _ _ _ _ _ _ tt (c .prefix-instruction .ensures))
 
 pub serve-spec : {M : Type 1} → statement M
 serve-spec =
@@ -59,5 +80,8 @@ serve-spec =
     same-length-3
     returns
     same-length-4
+    same-length-5
     returns-2
+    same-length-6
+    same-length-7
     returns-3)

@@ -246,8 +246,8 @@ pub fn random_address(random: &mut Random, aim: &Aim) -> u32 {
     }
 }
 
-/// An access length, sometimes a wrong one.
-pub fn random_length(random: &mut Random) -> u32 {
+/// The count of an access, sometimes a wrong one.
+pub fn random_count(random: &mut Random) -> u32 {
     match random.below(40) {
         0 => 0,
         1 => 257,
@@ -299,7 +299,7 @@ fn access(random: &mut Random, aim: &Aim, kind: AccessKind) -> Request {
     Request::Access {
         kind,
         address: random_address(random, aim),
-        length: random_length(random),
+        count: random_count(random),
     }
 }
 
@@ -358,14 +358,14 @@ fn word_with_prefix(random: &mut Random, aim: &Aim) -> u32 {
 /// requests that use no buffer get one now and then, to see that it stays.
 pub fn random_buffer(random: &mut Random, request: &Request, buffer: &mut Vec<u8>) {
     let length = match *request {
-        Request::Access { length, .. } => {
-            let length = u64::from(length.min(300));
+        Request::Access { count, .. } => {
+            let needed = u64::from(count.min(300));
             match random.below(20) {
-                0 => length.saturating_sub(1),
-                1 if random.one_in(2) => random.below(length.max(1)),
-                1..=6 => length + 1 + random.below(64),
-                7 => length + random.below(600),
-                _ => length,
+                0 => needed.saturating_sub(1),
+                1 if random.one_in(2) => random.below(needed.max(1)),
+                1..=6 => needed + 1 + random.below(64),
+                7 => needed + random.below(600),
+                _ => needed,
             }
         }
         _ if random.one_in(4) => random.below(32),

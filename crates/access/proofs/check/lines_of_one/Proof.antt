@@ -1,33 +1,61 @@
--- `lines_of_one` gives the first of the three lines that applies. Assumes nothing.
+-- `lines_of_one` gives the first of the three lines that applies. Each answer rewrites the tests that have been made, by what they came out as.
+-- Assumes nothing.
 use Rattle.machine.specs.Answers.{line, firstOf}
-use borrow.Author.Needs.{needs}
+use Rattle.access.specs.ByUnit.{linesOfOne}
 use Rattle.access.proofs.check.lines_of_one.Statement.{statement}
 use Rattle.access.proofs.check.lines_of_one.Tie as tie
 
 outside-requires : tie.Need-outside-requires
-outside-requires c κs = search needs
+outside-requires c κs = tt
 
 returns : tie.Need-returns
-unfolding line firstOf
-returns c = rw (rw (c .before .outside .ensures) at (c .if1 .taken))
+unfolding line firstOf linesOfOne
+returns c = rw (← c .before .outside .ensures, c .if1 .taken)
 
 absolute-outside-requires : tie.Need-absolute-outside-requires
-absolute-outside-requires c κs = search needs
+absolute-outside-requires c κs = tt
 
 returns-2 : tie.Need-returns-2
-unfolding line firstOf
-returns-2 c = rw (rw (c .before .before .before .outside .ensures) at (c .before .before .if1 .left), rw (c .before .absolute-outside .ensures) at (c .if2 .taken))
+unfolding line firstOf linesOfOne
+returns-2 c =
+    let absolute-tested = c .before in
+    let inside = absolute-tested .before in
+    rw (← inside .before .outside .ensures, inside .if1 .left, ← absolute-tested .absolute-outside .ensures, c .if2 .taken)
 
 forbidden-requires : tie.Need-forbidden-requires
-forbidden-requires c κs = search needs
+forbidden-requires c κs = tt
 
 returns-3 : tie.Need-returns-3
-unfolding line firstOf
-returns-3 c = rw (rw (c .before .before .before .before .before .outside .ensures) at (c .before .before .before .before .if1 .left), rw (c .before .before .before .absolute-outside .ensures) at (c .before .before .if2 .left), rw (c .before .forbidden .ensures) at (c .if3 .taken))
+unfolding line firstOf linesOfOne
+returns-3 c =
+    let key-tested = c .before in
+    let absolute-inside = key-tested .before in
+    let absolute-tested = absolute-inside .before in
+    let inside = absolute-tested .before in
+    rw (
+      ← inside .before .outside .ensures,
+      inside .if1 .left,
+      ← absolute-tested .absolute-outside .ensures,
+      absolute-inside .if2 .left,
+      ← key-tested .forbidden .ensures,
+      c .if3 .taken,
+    )
 
 returns-4 : tie.Need-returns-4
-unfolding line firstOf
-returns-4 c = rw (rw (c .before .before .before .before .before .outside .ensures) at (c .before .before .before .before .if1 .left), rw (c .before .before .before .absolute-outside .ensures) at (c .before .before .if2 .left), rw (c .before .forbidden .ensures) at (c .if3 .left))
+unfolding line firstOf linesOfOne
+returns-4 c =
+    let key-tested = c .before in
+    let absolute-inside = key-tested .before in
+    let absolute-tested = absolute-inside .before in
+    let inside = absolute-tested .before in
+    rw (
+      ← inside .before .outside .ensures,
+      inside .if1 .left,
+      ← absolute-tested .absolute-outside .ensures,
+      absolute-inside .if2 .left,
+      ← key-tested .forbidden .ensures,
+      c .if3 .left,
+    )
 
 pub lines-of-one-spec : {M : Type 1} → statement M
 lines-of-one-spec =

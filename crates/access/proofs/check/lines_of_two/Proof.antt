@@ -1,43 +1,67 @@
 -- `lines_of_two` puts the three lines together as `linesOfTwo` does. Assumes nothing.
-use borrow.Author.Needs.{needs}
+use Rattle.access.specs.ByUnit.{linesOfTwo}
 use Rattle.access.proofs.check.lines_of_two.Statement.{statement}
 use Rattle.access.proofs.check.lines_of_two.Tie as tie
 
 outside-requires : tie.Need-outside-requires
-outside-requires c κs = search needs
+outside-requires c κs = tt
 
 outside-requires-2 : tie.Need-outside-requires-2
-outside-requires-2 c κs = search needs
+outside-requires-2 c κs = tt
 
 two-tests-requires : tie.Need-two-tests-requires
-two-tests-requires c κs = search needs
+two-tests-requires c κs = tt
 
 absolute-outside-requires : tie.Need-absolute-outside-requires
-absolute-outside-requires c κs = search needs
+absolute-outside-requires c κs = tt
 
 absolute-outside-requires-2 : tie.Need-absolute-outside-requires-2
-absolute-outside-requires-2 c κs = search needs
+absolute-outside-requires-2 c κs = tt
 
 two-tests-requires-2 : tie.Need-two-tests-requires-2
-two-tests-requires-2 c κs = search needs
+two-tests-requires-2 c κs = tt
 
 forbidden-requires : tie.Need-forbidden-requires
-forbidden-requires c κs = search needs
+forbidden-requires c κs = tt
 
 forbidden-requires-2 : tie.Need-forbidden-requires-2
-forbidden-requires-2 c κs = search needs
+forbidden-requires-2 c κs = tt
 
 two-tests-requires-3 : tie.Need-two-tests-requires-3
-two-tests-requires-3 c κs = search needs
+two-tests-requires-3 c κs = tt
 
 first-of-requires : tie.Need-first-of-requires
-first-of-requires c κs = search needs
+first-of-requires c κs = tt
 
 first-of-requires-2 : tie.Need-first-of-requires-2
-first-of-requires-2 c κs = search needs
+first-of-requires-2 c κs = tt
 
 returns : tie.Need-returns
-returns c = rw (c .first-of2 .ensures, c .before .first-of .ensures, c .before .before .two-tests3 .ensures, c .before .before .before .forbidden2 .ensures, c .before .before .before .before .forbidden .ensures, c .before .before .before .before .before .two-tests2 .ensures, c .before .before .before .before .before .before .absolute-outside2 .ensures, c .before .before .before .before .before .before .before .absolute-outside .ensures, c .before .before .before .before .before .before .before .before .two-tests .ensures, c .before .before .before .before .before .before .before .before .before .outside2 .ensures, c .before .before .before .before .before .before .before .before .before .before .outside .ensures)
+unfolding linesOfTwo
+returns c =
+    let lines-67-4 = c .before in
+    let line-4 = lines-67-4 .before in
+    let there-4 = line-4 .before in
+    let here-4 = there-4 .before in
+    let line-67 = here-4 .before in
+    let there-67 = line-67 .before in
+    let here-67 = there-67 .before in
+    let line-5 = here-67 .before in
+    let there-5 = line-5 .before in
+    let here-5 = there-5 .before in
+    rw (
+      c .first-of2 .ensures,
+      lines-67-4 .first-of .ensures,
+      line-4 .two-tests3 .ensures,
+      there-4 .forbidden2 .ensures,
+      here-4 .forbidden .ensures,
+      line-67 .two-tests2 .ensures,
+      there-67 .absolute-outside2 .ensures,
+      here-67 .absolute-outside .ensures,
+      line-5 .two-tests .ensures,
+      there-5 .outside2 .ensures,
+      here-5 .outside .ensures,
+    )
 
 pub lines-of-two-spec : {M : Type 1} → statement M
 lines-of-two-spec =

@@ -1,9 +1,8 @@
--- `put_prefix` writes the four bytes where the prefix has changed; else they stand there already. Assumes nothing.
-use mathlib.Core.Path.{sym}
+-- `put_prefix` writes the four bytes where the prefix has changed. Assumes nothing.
 use native.Mathlib.Omega.{arith}
 use lib.ListN.{length-set}
-use Rattle.machine.specs.Numbers.{written}
-use Rattle.machine.proofs.Written.{written-back}
+use borrow.Author.Tests.{eq-eqb, ne-eqb}
+use Rattle.machine.specs.Lists.{written}
 use borrow.Author.Needs.{needs}
 use Rattle.host.proofs.record.put_prefix.Statement.{statement}
 use Rattle.host.proofs.record.put_prefix.Tie as tie
@@ -49,11 +48,10 @@ same-length c = search needs
 
 returns : tie.Need-returns
 unfolding written
-returns c = search needs
+returns c = rw (ne-eqb _ _ (c .if1 .taken))
 
 returns-2 : tie.Need-returns-2
-unfolding written
-returns-2 c = rw (← c .if1 .left) (sym (written-back (c .before .args .bytes .now) _ _ 4 (c .before .pre .2)))
+returns-2 c = rw (eq-eqb _ _ (c .if1 .left))
 
 pub put-prefix-spec : {M : Type 1} → statement M
 put-prefix-spec =

@@ -1,9 +1,6 @@
 -- `request_of` takes the operation's place in the list of requests: by its number. Assumes nothing.
 use Prim.Native.Nat.{zero-le}
-use mathlib.Core.Path.{sym}
-use lib.ListN.{List·getD-eq-default}
-use Rattle.host.specs.Boundary.{requests}
-use Rattle.host.proofs.Laws.{above}
+use Rattle.host.proofs.Laws.{five-more, past-last}
 use borrow.Author.Needs.{needs}
 use Rattle.host.proofs.request.request_of.Statement.{statement}
 use Rattle.host.proofs.request.request_of.Tie as tie
@@ -48,7 +45,14 @@ returns-10 : tie.Need-returns-10
 returns-10 c = rw (c .match .keys10)
 
 returns-11 : tie.Need-returns-11
-returns-11 c = rw (c .access-of3 .ensures) (sym (List·getD-eq-default (requests (c .before .before .args .first) (c .before .before .args .second)) _ (above (above (above (above (above (above (above (above (above (above zero-le (c .before .match .rest .0 .0 .0 .0 .0 .0 .0 .0 .0 .1)) (c .before .match .rest .0 .0 .0 .0 .0 .0 .0 .0 .1)) (c .before .match .rest .0 .0 .0 .0 .0 .0 .0 .1)) (c .before .match .rest .0 .0 .0 .0 .0 .0 .1)) (c .before .match .rest .0 .0 .0 .0 .0 .1)) (c .before .match .rest .0 .0 .0 .0 .1)) (c .before .match .rest .0 .0 .0 .1)) (c .before .match .rest .0 .0 .1)) (c .before .match .rest .0 .1)) (c .before .match .rest .1))))
+returns-11 c =
+    let other = c .before in
+    let operation = other .before .args .operation in
+    let not-9 = other .match .rest in
+    let not-4 = not-9 .0 .0 .0 .0 .0 in
+    let from-5 = five-more 0 operation zero-le (not-4 .0 .0 .0 .0 .1) (not-4 .0 .0 .0 .1) (not-4 .0 .0 .1) (not-4 .0 .1) (not-4 .1) in
+    let from-10 = five-more 5 operation from-5 (not-9 .0 .0 .0 .0 .1) (not-9 .0 .0 .0 .1) (not-9 .0 .0 .1) (not-9 .0 .1) (not-9 .1) in
+    rw (c .access-of3 .ensures) (past-last operation _ _ from-10)
 
 pub request-of-spec : {M : Type 1} → statement M
 request-of-spec =

@@ -19,7 +19,10 @@ first-of-requires : tie.Need-first-of-requires
 first-of-requires c κs = search needs
 
 returns : tie.Need-returns
-returns c = rw (c .first-of .ensures, c .before .refuse2 .ensures, c .before .before .refuse .ensures, c .before .before .before .absolute .ensures)
+returns c =
+    let outside = c .before in
+    let addressing = outside .before in
+    rw (c .first-of .ensures, outside .refuse2 .ensures, addressing .refuse .ensures, addressing .before .absolute .ensures)
 
 pub address-lines-spec : {M : Type 1} → statement M
 address-lines-spec =

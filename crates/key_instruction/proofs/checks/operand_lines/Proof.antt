@@ -13,7 +13,10 @@ first-of-requires : tie.Need-first-of-requires
 first-of-requires c κs = search needs
 
 returns : tie.Need-returns
-returns c = rw (c .first-of .ensures, c .before .refuse2 .ensures, c .before .before .before .before .refuse .ensures)
+returns c =
+    let operation = c .before in
+    let operand = operation .before .before .before in
+    rw (c .first-of .ensures, operation .refuse2 .ensures, operand .refuse .ensures)
 
 pub operand-lines-spec : {M : Type 1} → statement M
 operand-lines-spec =

@@ -20,12 +20,15 @@ first-of-requires-2 c κs = search needs
 
 returns : tie.Need-returns
 returns c =
+    let from-special = c .before in
+    let privileged = from-special .before in
+    let specification = privileged .before in
     rw (
       c .first-of2 .ensures,
-      c .before .first-of .ensures,
-      c .before .before .refuse3 .ensures,
-      c .before .before .before .refuse2 .ensures,
-      c .before .before .before .before .refuse .ensures,
+      from-special .first-of .ensures,
+      privileged .refuse3 .ensures,
+      specification .refuse2 .ensures,
+      specification .before .refuse .ensures,
     )
 
 pub state-lines-spec : {M : Type 1} → statement M

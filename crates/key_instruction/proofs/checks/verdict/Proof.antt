@@ -1,5 +1,5 @@
--- `verdict` is the table's lines from 64 to 67: the groups, one after the other. Assumes nothing.
-use Rattle.machine.specs.Table.{addressing, absoluteAddressing, plan}
+-- `verdict` is the lines over the decoded instruction: the groups, one after the other. Assumes nothing.
+use Rattle.key_instruction.specs.Decoded.{decodedVerdict}
 use Rattle.key_instruction.proofs.Lines.{nine-lines}
 use borrow.Author.Needs.{needs}
 use Rattle.key_instruction.proofs.checks.verdict.Statement.{statement}
@@ -27,17 +27,21 @@ first-of-requires-3 : tie.Need-first-of-requires-3
 first-of-requires-3 c κs = search needs
 
 returns : tie.Need-returns
-unfolding addressing absoluteAddressing plan
-returns c = λ i apart.
+unfolding decodedVerdict
+returns c =
+    let from-operand = c .before in
+    let from-state = from-operand .before in
+    let address = from-state .before in
+    let state = address .before in
+    let operand = state .before in
     rw (
       c .first-of3 .ensures,
-      c .before .first-of2 .ensures,
-      c .before .before .first-of .ensures,
-      c .before .before .before .address-lines .ensures,
-      c .before .before .before .before .state-lines .ensures,
-      c .before .before .before .before .before .operand-lines .ensures,
-      c .before .before .before .before .before .before .valid .ensures,
-      apart,
+      from-operand .first-of2 .ensures,
+      from-state .first-of .ensures,
+      address .address-lines .ensures,
+      state .state-lines .ensures,
+      operand .operand-lines .ensures,
+      operand .before .valid .ensures,
     )
     (nine-lines _ _ _ _ _ _ _ _ _)
 

@@ -15,7 +15,7 @@ add-joined : tie.Need-add-joined
 add-joined c = search needs
 
 shared-slice-read-joined-2 : tie.Need-shared-slice-read-joined-2
-shared-slice-read-joined-2 c = omega (arith, c .before .before .before .before .pre .1 (c .before .before .if1 .taken))
+shared-slice-read-joined-2 c = let two = c .before .before in omega (arith, two .before .before .pre .1 (two .if1 .taken))
 
 joined-requires : tie.Need-joined-requires
 joined-requires c κs = search needs
@@ -40,11 +40,11 @@ add-result-2 c = search needs
 
 returns : tie.Need-returns
 unfolding wordGiven
-returns c = rw (c .joined .ensures, c .before .before .before .if1 .taken)
+returns c = let two = c .before .before .before in rw (c .joined .ensures, two .if1 .taken) (omega arith)
 
 returns-2 : tie.Need-returns-2
 unfolding wordGiven
-returns-2 c = rw (c .key-of .ensures, c .before .before .if1 .left)
+returns-2 c = let one = c .before .before in rw (c .key-of .ensures, one .if1 .left) (omega arith)
 
 pub insert-spec : {M : Type 1} → statement M
 insert-spec =

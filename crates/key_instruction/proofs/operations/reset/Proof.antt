@@ -23,7 +23,11 @@ add-after-reset : tie.Need-add-after-reset
 add-after-reset c = search needs
 
 slice-read-after-reset : tie.Need-slice-read-after-reset
-slice-read-after-reset c = simp length-set (c .before .before .before .before .before .before .pre .1 (c .before .if1 .taken))
+slice-read-after-reset c =
+    let two = c .before in
+    let low = two .before in
+    let read = low .before .before in
+    simp length-set (read .before .before .pre .1 (two .if1 .taken))
 
 after-reset-requires-2 : tie.Need-after-reset-requires-2
 after-reset-requires-2 c κs = search needs
@@ -32,25 +36,30 @@ add-keys : tie.Need-add-keys
 add-keys c = search needs
 
 slice-write-keys-2 : tie.Need-slice-write-keys-2
-slice-write-keys-2 c = simp length-set (c .before .before .before .before .before .before .before .pre .1 (c .before .before .if1 .taken))
+slice-write-keys-2 c =
+    let two = c .before .before in
+    let low = two .before in
+    let read = low .before .before in
+    simp length-set (read .before .before .pre .1 (two .if1 .taken))
 
 same-length : tie.Need-same-length
 same-length c = search needs
 
 returns : tie.Need-returns
 unfolding keysLeft
-returns c = (
-  rw (c .before .before .if1 .taken, c .after-reset2 .ensures, c .before .before .before .after-reset .ensures)
-      (two-keys afterReset _ _),
-  c .before .before .before .before .code-of .ensures,
-)
+returns c =
+    let two = c .before .before in
+    let low = two .before in
+    (rw (two .if1 .taken, c .after-reset2 .ensures, low .after-reset .ensures) (two-keys afterReset _ _), low .before .code-of .ensures)
 
 same-length-2 : tie.Need-same-length-2
 same-length-2 c = search needs
 
 returns-2 : tie.Need-returns-2
 unfolding keysLeft
-returns-2 c = (rw (c .if1 .left, c .before .after-reset .ensures) (one-key afterReset _ _), c .before .before .code-of .ensures)
+returns-2 c =
+    let low = c .before in
+    (rw (c .if1 .left, low .after-reset .ensures) (one-key afterReset _ _), low .before .code-of .ensures)
 
 pub reset-spec : {M : Type 1} → statement M
 reset-spec =

@@ -1,6 +1,6 @@
 -- `set` leaves the rules' keys: by whether it is one key or two. Assumes nothing.
 use native.Mathlib.Omega.{arith}
-use Rattle.machine.specs.Key.{keyOf}
+use Rattle.machine.specs.Key.{keyInWord}
 use lib.ListN.{length-set}
 use Rattle.machine.specs.KeyInstructions.{keysLeft}
 use Rattle.key_instruction.proofs.Keys.{one-key, two-keys}
@@ -18,21 +18,25 @@ add-keys : tie.Need-add-keys
 add-keys c = search needs
 
 slice-write-keys-2 : tie.Need-slice-write-keys-2
-slice-write-keys-2 c = simp length-set (omega (arith, c .before .before .before .pre .1 (c .if1 .taken)))
+slice-write-keys-2 c = let keyed = c .before in simp length-set (omega (arith, keyed .before .before .pre .1 (c .if1 .taken)))
 
 same-length : tie.Need-same-length
 same-length c = search needs
 
 returns : tie.Need-returns
 unfolding keysLeft
-returns c = rw (c .if1 .taken, c .before .key-in .ensures) (two-keys (λ k. keyOf (c .before .before .before .args .r1)) _ _)
+returns c =
+    let keyed = c .before in
+    rw (c .if1 .taken, keyed .key-in .ensures) (two-keys (λ k. keyInWord (keyed .before .before .args .r1)) _ _)
 
 same-length-2 : tie.Need-same-length-2
 same-length-2 c = search needs
 
 returns-2 : tie.Need-returns-2
 unfolding keysLeft
-returns-2 c = rw (c .if1 .left, c .before .key-in .ensures) (one-key (λ k. keyOf (c .before .before .before .args .r1)) _ _)
+returns-2 c =
+    let keyed = c .before in
+    rw (c .if1 .left, keyed .key-in .ensures) (one-key (λ k. keyInWord (keyed .before .before .args .r1)) _ _)
 
 pub set-spec : {M : Type 1} → statement M
 set-spec =

@@ -1,7 +1,6 @@
--- `prefix_instruction` is the step of a prefix instruction: by the verdict of its plan. Assumes nothing.
-use mathlib.Core.Path.{sym}
+-- `prefix_instruction` is the step of a prefix instruction: by the verdict of the lines that it can meet. Assumes nothing.
 use Rattle.machine.specs.Step.{completed}
-use Rattle.machine.proofs.Requests.{own-put-back, refused-request, completed-request, verdict-is-plan}
+use Rattle.machine.proofs.Requests.{refused-instruction, completed-instruction}
 use borrow.Author.Needs.{needs}
 use Rattle.storage_unit.proofs.prefix.prefix_instruction.Statement.{statement}
 use Rattle.storage_unit.proofs.prefix.prefix_instruction.Tie as tie
@@ -9,23 +8,39 @@ use Rattle.storage_unit.proofs.prefix.prefix_instruction.Tie as tie
 verdict-requires : tie.Need-verdict-requires
 verdict-requires c κs = search needs
 
-enum-told : tie.Need-enum-told
-enum-told c = search needs
+stops-requires : tie.Need-stops-requires
+stops-requires c κs = search needs
+
+answer-of-requires : tie.Need-answer-of-requires
+answer-of-requires c κs = search needs
+
+returns : tie.Need-returns
+returns c =
+    let stopped = c .before in
+    let judged = stopped .before in
+    let found = judged .before in
+    rw (c .answer-of .ensures)
+    (refused-instruction _ _ _ _ _ tt (found .verdict .ensures) 0 (rw (judged .stops .ensures) at (stopped .if1 .taken)))
 
 complete-requires : tie.Need-complete-requires
 complete-requires c κs = search needs
 
-enum-known-found : tie.Need-enum-known-found
-enum-known-found c = search needs
-
-returns : tie.Need-returns
-unfolding completed
-returns c = λ storage keys ps buffer es ek e. rw (c .complete .ensures .0, c .complete .ensures .1) (completed-request _ storage keys ps _ _ buffer (sym e) (verdict-is-plan _ storage keys _ _ _ buffer tt es (rw (← ek) at (c .before .before .before .verdict .ensures))) (c .before .enum-told .given .1))
-
 returns-2 : tie.Need-returns-2
-returns-2 c = λ storage keys ps buffer es ek e. rw (own-put-back ps _ _ e) (refused-request _ storage keys ps _ _ buffer (sym e) (verdict-is-plan _ storage keys _ _ _ buffer tt es (rw (← ek) at (c .before .before .before .verdict .ensures))) (c .before .found .given .1))
+unfolding completed
+returns-2 c =
+    let cleared = c .before in
+    let judged = cleared .before in
+    let found = judged .before in
+    rw (c .complete .ensures .0, c .complete .ensures .1)
+    (completed-instruction _ _ _ _ _ tt (found .verdict .ensures) (rw (judged .stops .ensures) at (cleared .if1 .left)))
 
 pub prefix-instruction-spec : {M : Type 1} → statement M
 prefix-instruction-spec =
     tie.close
-    (tie.spec verdict-requires enum-told complete-requires enum-known-found returns returns-2)
+    (tie.spec
+    verdict-requires
+    stops-requires
+    answer-of-requires
+    returns
+    complete-requires
+    returns-2)

@@ -23,7 +23,20 @@ first-of-requires-2 : tie.Need-first-of-requires-2
 first-of-requires-2 c κs = search needs
 
 returns : tie.Need-returns
-returns c = rw (c .first-of2 .ensures, c .before .first-of .ensures, c .before .before .refuse2 .ensures, c .before .before .before .refuse .ensures, c .before .before .before .before .install-outside .ensures, c .before .before .before .before .before .valid .ensures) (four-lines _ _ _ _ _ _)
+returns c =
+    let joined = c .before in
+    let addressed = joined .before in
+    let privileged = addressed .before in
+    let tested = privileged .before in
+    rw (
+      c .first-of2 .ensures,
+      joined .first-of .ensures,
+      addressed .refuse2 .ensures,
+      privileged .refuse .ensures,
+      tested .install-outside .ensures,
+      tested .before .valid .ensures,
+    )
+    (four-lines _ _ _ _ _)
 
 pub verdict-spec : {M : Type 1} → statement M
 verdict-spec =

@@ -1,0 +1,55 @@
+// The spans of an access: an access touches at most two units, and its span in each has one displacement from real to absolute addresses.
+use machine::Processor;
+use machine::Settings;
+use machine::numbers::unit_of;
+use prefixing::absolute;
+use prefixing::add24;
+ghost use mathlib.Core.Path.{_≡_};
+ghost use lib.ListN.{getD};
+ghost use Rattle.access.specs.ByUnit.{toUnitEnd, spanAt};
+
+// The span of an access from one of its bytes on, in the unit of that byte.
+pub(crate) struct Span {
+    // The real address of its first byte.
+    pub(crate) real: u32,
+    // The absolute address of its first byte.
+    pub(crate) absolute: u32,
+    // The unit.
+    pub(crate) unit: usize,
+    // The unit's key.
+    pub(crate) key: u8,
+}
+
+// The key of a unit, or 0 where the array has none.
+fn key_of_unit(keys: &[u8], unit: usize) -> u8
+    ensures { λ r. ⌜ r ≡ getD (now (keys .entry)) unit 0 ⌝ }
+{
+    if unit < keys.len() { keys[unit] } else { 0 }
+}
+
+// The span from byte i on.
+pub(crate) fn span_at(settings: Settings, keys: &[u8], p: Processor, address: u32, i: u32) -> Span
+    ensures { λ r. ⌜ r ≡ spanAt settings (now (keys .entry)) p address i ⌝ }
+{
+    let real = add24(address, i);
+    let absolute = absolute(p.prefix, real);
+    let unit = unit_of(settings, absolute as usize);
+    let key = key_of_unit(keys, unit);
+    Span {
+        real,
+        absolute,
+        unit,
+        key,
+    }
+}
+
+// How many bytes from an address to the end of its unit.
+pub(crate) fn bytes_to_unit_end(settings: Settings, address: u32) -> u32
+    ensures { λ r. ⌜ r ≡ toUnitEnd settings address ⌝ }
+{
+    if settings.four_k {
+        4096 - address % 4096
+    } else {
+        2048 - address % 2048
+    }
+}

@@ -1,0 +1,121 @@
+-- The lines before protection: what is known of a request that they let pass. The table is taken apart line by line, and the tests of a line
+-- one by one. Assumes nothing.
+use Prim.Native.Nat.{ℕ, _/_, _%_, _<_, _≤_}
+use mathlib.Core.Path.{_≡_}
+use mathlib.Core.Bool.{true, false, _&&_}
+use mathlib.Core.List.{List}
+use native.Mathlib.Nat.{pos-of-ne-zero}
+use native.Mathlib.Omega.{arith}
+use lib.ListN.{length}
+use lib.Dec.{eqb, ltb, leb}
+use borrow.Author.Tests.{ltb-true, ltb-false, leb-true, leb-false, eqb-true, eqb-false, not-false}
+use Rattle.machine.specs.declared.Settings.{Settings}
+use Rattle.machine.specs.declared.Processor.{Processor}
+use Rattle.machine.specs.declared.AccessKind.{AccessKind}
+use Rattle.machine.specs.declared.Request.{Request}
+use Rattle.machine.specs.declared.Request.the-variants.{Access}
+use Rattle.machine.specs.declared.Reason.the-variants.{Addressing}
+use Rattle.machine.specs.declared.Verdict.the-variants.{Clear}
+use Rattle.machine.specs.Numbers.{storageMaximum, operandLimit, storageValid, lengthsValid, recordValid, unitSize, unitOf, add24}
+use Rattle.machine.specs.Answers.{line, firstOf, firstLine}
+use Rattle.machine.specs.Prefixing.{absolute, byteAt}
+use Rattle.machine.specs.Table.{operandInvalid, addressing, beforeProtection, verdict}
+use Rattle.machine.proofs.Verdicts.{both, neither, line-clear, first-clear, bytes-clear}
+use Rattle.machine.proofs.Prefixing.{prefixing-stays-inside}
+use Rattle.machine.proofs.Units.{unit-inside}
+
+-- what lines 64 and 65 let pass: storage of whole blocks that addresses of 31 bits reach, a key for each unit of it, the prefix below its end
+pub record Configured (s : Settings) (storageLength keyLength : ℕ) (p : Processor) : Type 0 where
+  pub whole : storageLength % 4096 ≡ 0
+  pub reached : storageLength ≤ 2147483648
+  pub keyed : keyLength ≡ storageLength / unitSize s
+  pub installed : p .prefix < storageLength
+
+pub configured : (s : Settings) (storageLength keyLength : ℕ) (p : Processor)
+    → lengthsValid s storageLength keyLength ≡ true → recordValid storageLength p ≡ true → Configured s storageLength keyLength p
+configured s storageLength keyLength p l r =
+    let (sized, keyed) = both (storageValid storageLength) _ l in
+    let (blocks, small) = both _ (leb storageLength storageMaximum) sized in
+    record {
+      whole = eqb-true _ _ (both _ _ blocks .0);
+      reached = omega (arith, leb-true storageLength storageMaximum small);
+      keyed = eqb-true _ _ keyed;
+      installed = ltb-true _ _ (both (leb (p .key) 15 && leb (p .code) 3 && eqb (p .prefix % 4096) 0) _ r .1);
+    }
+
+-- and then a real address inside storage has its absolute address inside
+pub stays-inside : (s : Settings) (storageLength keyLength : ℕ) (p : Processor) (real : ℕ) → Configured s storageLength keyLength p
+    → real < storageLength → absolute (p .prefix) real < storageLength
+stays-inside s storageLength keyLength p real known =
+    prefixing-stays-inside (p .prefix) real storageLength (known .whole) (known .reached) (known .installed)
+
+-- what is known of a request that the lines before protection let pass
+pub record Cleared (s : Settings) (storageLength keyLength : ℕ) (p : Processor) (r : Request) (bufferLength : ℕ) : Type 0 where
+  pub lengths : lengthsValid s storageLength keyLength ≡ true
+  pub own : recordValid storageLength p ≡ true
+  pub operands : operandInvalid r bufferLength ≡ false
+  pub inside : addressing storageLength r ≡ Clear
+
+pub cleared : (s : Settings) (storageLength keyLength : ℕ) (p : Processor) (r : Request) (bufferLength : ℕ)
+    → beforeProtection s storageLength keyLength p r bufferLength ≡ Clear → Cleared s storageLength keyLength p r bufferLength
+unfolding beforeProtection firstLine
+cleared s storageLength keyLength p r bufferLength e =
+    let (l64, from65) = first-clear _ _ e in
+    let (l65, from66) = first-clear _ _ from65 in
+    let (l66, from1) = first-clear _ _ from66 in
+    let (l1, from2) = first-clear _ _ from1 in
+    let (l2, from19) = first-clear _ _ from2 in
+    let (l19, from6) = first-clear _ _ from19 in
+    let (l6, from5) = first-clear _ _ from6 in
+    record {
+      lengths = not-false _ (line-clear _ _ l64);
+      own = not-false _ (line-clear _ _ l65);
+      operands = line-clear _ _ l66;
+      inside = first-clear _ _ from5 .0;
+    }
+
+-- a request that the whole table lets pass is one of these
+pub table-clear : (s : Settings) (storageLength : ℕ) (keys : List ℕ) (p : Processor) (r : Request) (bufferLength : ℕ)
+    → verdict s storageLength keys p r bufferLength ≡ Clear → beforeProtection s storageLength (length keys) p r bufferLength ≡ Clear
+unfolding verdict
+table-clear s storageLength keys p r bufferLength e = first-clear _ _ e .0
+
+-- what line 66 lets pass of an access
+pub operands-passed : (kind : AccessKind) (address count bufferLength : ℕ) → operandInvalid (Access kind address count) bufferLength ≡ false
+    → (0 < count) × (count ≤ 256) × (count ≤ bufferLength)
+operands-passed kind address count bufferLength e =
+    let (before, buffered) = neither _ (ltb bufferLength count) e in
+    let (some, short) = neither (eqb count 0) _ (neither _ (leb operandLimit address) before .0) in
+    (pos-of-ne-zero (eqb-false count 0 some), ltb-false _ _ short, ltb-false _ _ buffered)
+
+-- what is known of an access that the lines before protection let pass
+pub record AccessCleared (storageLength : ℕ) (p : Processor) (address count bufferLength : ℕ) : Type 0 where
+  pub some : 0 < count
+  pub short : count ≤ 256
+  pub buffered : count ≤ bufferLength
+  pub byte-inside : (i : ℕ) → i < count → byteAt p address i < storageLength
+
+module _ (s : Settings) (storageLength keyLength : ℕ) (p : Processor) (kind : AccessKind) (address count bufferLength : ℕ)
+    (clear : beforeProtection s storageLength keyLength p (Access kind address count) bufferLength ≡ Clear) where
+  lines : Cleared s storageLength keyLength p (Access kind address count) bufferLength
+  lines = cleared s storageLength keyLength p (Access kind address count) bufferLength clear
+
+  known : Configured s storageLength keyLength p
+  known = configured s storageLength keyLength p (lines .lengths) (lines .own)
+
+  pub access-cleared : AccessCleared storageLength p address count bufferLength
+  unfolding addressing
+  access-cleared =
+      let (some, short, buffered) = operands-passed kind address count bufferLength (lines .operands) in
+      record {
+        some = some;
+        short = short;
+        buffered = buffered;
+        byte-inside = λ i h.
+            stays-inside s storageLength keyLength p (add24 address i) known
+            (leb-false _ _ (bytes-clear Addressing (λ i. leb storageLength (add24 address i)) count (lines .inside) i h));
+      }
+
+  -- the keys of the units that it touches are in the key array
+  pub access-keyed : (i : ℕ) → i < count → unitOf s (byteAt p address i) < keyLength
+  access-keyed i h = rw (known .keyed) (unit-inside s storageLength (byteAt p address i) (known .whole) (access-cleared .byte-inside i h))

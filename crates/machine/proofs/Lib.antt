@@ -15,6 +15,13 @@ pub mod AnswerPlace
 pub mod Accesses
 pub mod KeyInstructions
 pub mod Named
+-- The rules held to the sentences of document 01: the table, key and prefix instructions, and rows computed
+pub mod TableLines
+pub mod Sentences
+pub mod Refusals
+pub mod Instructions
+pub mod PrefixInstructions
+pub mod Rows
 -- A request over the pair of records
 pub mod Pairs
 pub mod Conditions

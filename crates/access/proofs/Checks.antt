@@ -1,12 +1,12 @@
 -- The table of an access by unit is the table by byte. A test that passes at the first byte of a span passes at all its bytes: so a scan goes on
 -- over a span by one test, and an access in one unit takes one test of each line, an access in two units two.
 -- Assumes nothing.
-use Prim.Native.Nat.{ℕ, zero, suc, _+_, _-_, _%_, _<_, _≤_}
+use Prim.Native.Nat.{ℕ, zero, _+_, _-_, _%_, _<_, _≤_}
 use mathlib.Core.Path.{_≡_, refl, sym, _∙_}
-use mathlib.Core.Bool.{Bool, true, false, cond, _&&_}
+use mathlib.Core.Bool.{Bool, true, false, _&&_}
 use mathlib.Core.List.{List}
 use native.Mathlib.Omega.{arith}
-use native.Mathlib.Nat.{add-zero, add-suc, zero-add}
+use native.Mathlib.Nat.{zero-add}
 use borrow.Author.Tests.{ltb-false, leb-false, le-ltb, lt-leb, not-false}
 use lib.Dec.{leb, ltb}
 use lib.ListN.{length, getD}
@@ -19,36 +19,18 @@ use Rattle.machine.specs.declared.Request.the-variants.{Access}
 use Rattle.machine.specs.declared.Verdict.{Verdict}
 use Rattle.machine.specs.declared.AccessKind.{AccessKind}
 use Rattle.machine.specs.declared.AccessKind.the-variants.{Fetch, Store}
-use Rattle.machine.specs.declared.Verdict.the-variants.{Clear, Stop}
+use Rattle.machine.specs.declared.Verdict.the-variants.{Clear}
 use Rattle.machine.specs.Numbers.{lengthsValid, recordValid, unitOf, add24}
 use Rattle.machine.specs.Answers.{stops, line, firstOf, firstByte, firstLine}
 use Rattle.machine.specs.Prefixing.{byteAt}
 use Rattle.machine.specs.Protection.{lowProtected, forbidden}
 use Rattle.machine.specs.Table.{absoluteOutside, addressing, absoluteAddressing, protection, beforeProtection, verdict}
-use Rattle.machine.proofs.Verdicts.{not-both, neither, line-clear, first-clear, first-of-clear, first-none, first-assoc}
+use Rattle.machine.proofs.Verdicts.{neither, line-clear, first-clear, first-of-clear, first-none, first-assoc, skipped, first-of-stop, scan-on}
 use Rattle.machine.proofs.BeforeProtection.{configured, operands-passed}
 use Rattle.machine.proofs.AbsoluteAddress.{absolute-inside}
 use Rattle.access.specs.declared.span.Span.{Span}
 use Rattle.access.specs.ByUnit.{toUnitEnd, spanAt, firstLines, linesOfOne, twoTests, linesOfTwo}
 use Rattle.access.proofs.Spans.{SameUnit, real-below, real-step, unit-same, to-unit-end-positive, first-span, second-span}
-
--- a scan that has come to a byte f is not changed by a later byte i that passes where byte f does
-settled : (r : Reason) (f i : ℕ) (v : Verdict) (here later : Bool) → (here ≡ false → later ≡ false)
-    → firstOf (firstOf v (cond here (Stop r f) Clear)) (cond later (Stop r i) Clear) ≡ firstOf v (cond here (Stop r f) Clear)
-unfolding firstOf
-settled r f i (Stop q k) here later same = refl
-settled r f i Clear true later same = refl
-settled r f i Clear false later same = rw (same refl)
-
--- a scan of f bytes goes on over n bytes that pass where byte f does, by the test of byte f
-scan-on : (r : Reason) (test : ℕ → Bool) (f n : ℕ) → 0 < n → ((j : ℕ) → j < n → test f ≡ false → test (f + j) ≡ false)
-    → firstByte r test (f + n) ≡ firstOf (firstByte r test f) (cond (test f) (Stop r f) Clear)
-unfolding firstByte
-scan-on r test f zero some same = absurd (omega arith)
-scan-on r test f (suc zero) some same = rw (add-suc f 0, add-zero f)
-scan-on r test f (suc (suc n)) some same =
-    rw (add-suc f (suc n), scan-on r test f (suc n) (omega arith) (λ j h. same j (omega arith)))
-    (settled r f (f + suc n) (firstByte r test f) (test f) (test (f + suc n)) (same (suc n) (omega arith)))
 
 -- a test that passes at every byte of a span where it passes at the first
 abbrev Steady : Settings → ℕ → (ℕ → Bool) → Type 0
@@ -57,8 +39,8 @@ Steady s address test = (f j : ℕ) → SameUnit s address f j → test f ≡ fa
 module _ (s : Settings) (address : ℕ) (r : Reason) (test : ℕ → Bool) (steady : Steady s address test) where
   by-one : (n : ℕ) → 0 < n → n ≤ toUnitEnd s address → firstByte r test n ≡ line r (test 0)
   unfolding firstByte firstOf line
-  by-one n some whole =
-      rw (zero-add n) at (scan-on r test 0 n some (λ j l. steady 0 j (first-span s address n whole j l)))
+  by-one n positive whole =
+      rw (zero-add n) at (scan-on r test 0 n positive (λ j l. steady 0 j (first-span s address n whole j l)))
 
   by-two : (count : ℕ) → toUnitEnd s address < count → count ≤ 256
       → firstByte r test count ≡ twoTests r (test 0) (toUnitEnd s address) (test (toUnitEnd s address))
@@ -91,17 +73,6 @@ module _ (s : Settings) (address : ℕ) where
       rw (low-later kind p (add24 address f) (add24 address (f + j)) (omega (arith, real-step s address f j same)) high, unit-same s address f j same p)
       permitted
 
--- a line that never applies does not count
-no-line : (r : Reason) (w : Verdict) → firstOf (line r false) w ≡ w
-unfolding line firstOf
-no-line r w = refl
-
--- where the first verdict stops, the second does not count
-first-of-stop : (v w : Verdict) → stops v ≡ true → firstOf v w ≡ v
-unfolding firstOf
-first-of-stop Clear w e = absurd (not-both e refl)
-first-of-stop (Stop r p) w e = refl
-
 module _ (s : Settings) (storageLength : ℕ) (keys : List ℕ) (p : Processor) (kind : AccessKind) (address count bufferLength : ℕ) where
   abbrev request : Request
   request = Access kind address count
@@ -117,7 +88,7 @@ module _ (s : Settings) (storageLength : ℕ) (keys : List ℕ) (p : Processor) 
   table-in-two : firstOf firsts (firstOf (addressing storageLength request)
       (firstOf (absoluteAddressing storageLength p request) (protection s keys p request))) ≡ table
   unfolding firstLine firstLines beforeProtection verdict
-  table-in-two = simp (first-assoc, first-none, no-line)
+  table-in-two = simp (first-assoc, first-none, skipped)
 
   -- where one of the first lines refuses, it is the verdict of the table
   pub refused-first : {v : Verdict} → v ≡ firsts → stops v ≡ true → v ≡ table
@@ -165,12 +136,12 @@ module _ (s : Settings) (storageLength : ℕ) (keys : List ℕ) (p : Processor) 
         → v ≡ linesOfOne storageLength p kind here → v ≡ table
     unfolding linesOfOne
     table-of-one whole spanned tested =
-        let some = operands .0 in
+        let positive = operands .0 in
         rw (tested, spanned)
         (rw (
-          by-one s address Addressing test-5 steady-5 count some whole,
-          by-one s address AbsoluteAddress test-67 steady-67 count some whole,
-          by-one s address Protection test-4 steady-4 count some whole,
+          by-one s address Addressing test-5 steady-5 count positive whole,
+          by-one s address AbsoluteAddress test-67 steady-67 count positive whole,
+          by-one s address Protection test-4 steady-4 count positive whole,
         ) at others)
 
     -- and on one in two

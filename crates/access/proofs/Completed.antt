@@ -50,8 +50,8 @@ module _ (mark unit : ℕ → ℕ) (keys : List ℕ) where
   marked n = written keys unit (λ i. mark (unit i)) n
 
   marked-on : (f n : ℕ) → 0 < n → ((j : ℕ) → j < n → unit (f + j) ≡ unit f) → set (marked f) (unit f) (mark (unit f)) ≡ marked (f + n)
-  marked-on f zero some same = absurd (omega arith)
-  marked-on f (suc n) some same =
+  marked-on f zero positive same = absurd (omega arith)
+  marked-on f (suc n) positive same =
       sym (written-once (marked f) (λ j. unit (f + j)) (λ j. mark (unit (f + j))) (unit f) (mark (unit f)) n (λ j l. (same j l, ap mark (same j l))))
       ∙ written-after keys unit (λ i. mark (unit i)) f (suc n)
 
@@ -81,7 +81,7 @@ module _ (s : Settings) (storage keys : List ℕ) (p : Processor) (kind : Access
       fetched Fetch = refl
       fetched Store = refl
 
-  module _ (f n : ℕ) (some : 0 < n) (one-unit : OneUnit s address f n) where
+  module _ (f n : ℕ) (positive : 0 < n) (one-unit : OneUnit s address f n) where
     bytes-step : (j : ℕ) → j < n → byteAt p address f + j ≡ byteAt p address (f + j)
     bytes-step j l = byte-step s address f j (one-unit j l) p
 
@@ -102,7 +102,7 @@ module _ (s : Settings) (storage keys : List ℕ) (p : Processor) (kind : Access
     keys-on : keyRecorded kind (keysRecorded s kind keys p address f) (spanAt s keys p address f) ≡ keysRecorded s kind keys p address (f + n)
     unfolding keysRecorded
     keys-on =
-        marked-on (λ u. recorded kind (getD keys u 0)) (λ i. unitOf s (byteAt p address i)) keys f n some
+        marked-on (λ u. recorded kind (getD keys u 0)) (λ i. unitOf s (byteAt p address i)) keys f n positive
         (λ j l. unit-same s address f j (one-unit j l) p)
 
     -- the span from byte f on, completed after the first f bytes
@@ -144,7 +144,7 @@ module _ (s : Settings) (storage keys : List ℕ) (p : Processor) (kind : Access
     -- a span fits, and the key of its unit is there
     pub span-fits : {here : Span} (f n : ℕ) → 0 < n → f + n ≤ count → OneUnit s address f n → here ≡ spanAt s keys p address f
         → Fits (length storage) (here .absolute) (length buffer) f (here .real) n × (here .unit < length keys)
-    span-fits f n some inside one-unit spanned =
+    span-fits f n positive inside one-unit spanned =
         let last : f + (n - 1) < count = omega arith in
         let same = one-unit (n - 1) (omega arith) in
         rw spanned (

@@ -61,21 +61,21 @@ module _ (s : Settings) (storage keys : List ℕ) (p : Processor) (kind : Access
       one-clear : table s storage keys p kind address count buffer ≡ Clear
       one-clear = sym one-found ∙ stops-not v (sym decided ∙ clear)
 
-      one-some : 0 < count
-      one-some = known s storage keys p kind address count buffer one-clear .some
+      one-positive : 0 < count
+      one-positive = known s storage keys p kind address count buffer one-clear .positive
 
       one-unit : OneUnit s address 0 count
       one-unit = first-span s address count whole
 
       pub one-fits : SpanFits here 0 count
-      one-fits = span-fits s storage keys p kind address count buffer one-clear 0 count one-some (omega arith) one-unit spanned
+      one-fits = span-fits s storage keys p kind address count buffer one-clear 0 count one-positive (omega arith) one-unit spanned
 
       pub one-completed : {storage′ keys′ buffer′ : List ℕ} → SpanCompleted kind here 0 count storage keys buffer storage′ keys′ buffer′
           → Left v storage′ keys′ buffer′
       one-completed completed =
           let start = at-start s storage keys p kind address buffer in
           finished s storage keys p kind address count buffer one-found (sym decided ∙ clear)
-          (rw (zero-add count) at (after-span s storage keys p kind address buffer 0 count one-some one-unit spanned start completed))
+          (rw (zero-add count) at (after-span s storage keys p kind address buffer 0 count one-positive one-unit spanned start completed))
 
   -- in two, byte k being the first in the second
   module _ {k : ℕ} (end : (k ≡ toUnitEnd s address) × (k < count)) {here there : Span} {v : Verdict} {stopped : Bool}
@@ -91,8 +91,8 @@ module _ (s : Settings) (storage keys : List ℕ) (p : Processor) (kind : Access
       two-clear : table s storage keys p kind address count buffer ≡ Clear
       two-clear = sym two-found ∙ stops-not v (sym decided ∙ clear)
 
-      two-some : 0 < k
-      two-some = rw (end .0) (to-unit-end-positive s address)
+      two-positive : 0 < k
+      two-positive = rw (end .0) (to-unit-end-positive s address)
 
       first-unit : OneUnit s address 0 k
       first-unit = first-span s address k (omega arith)
@@ -103,7 +103,7 @@ module _ (s : Settings) (storage keys : List ℕ) (p : Processor) (kind : Access
           rw (end .0) (second-span s address (count - toUnitEnd s address) (omega arith))
 
       pub first-fits : SpanFits here 0 k
-      first-fits = span-fits s storage keys p kind address count buffer two-clear 0 k two-some (omega arith) first-unit spanned
+      first-fits = span-fits s storage keys p kind address count buffer two-clear 0 k two-positive (omega arith) first-unit spanned
 
       pub second-fits : SpanFits there k (count - k)
       second-fits =
@@ -114,7 +114,7 @@ module _ (s : Settings) (storage keys : List ℕ) (p : Processor) (kind : Access
       two-completed {xs} {ks} {ys} first-completed second-completed =
           let start = at-start s storage keys p kind address buffer in
           let first-k : After s storage keys p kind address buffer k xs ks ys =
-          rw (zero-add k) at (after-span s storage keys p kind address buffer 0 k two-some first-unit spanned start first-completed) in
+          rw (zero-add k) at (after-span s storage keys p kind address buffer 0 k two-positive first-unit spanned start first-completed) in
           let all : k + (count - k) ≡ count = omega arith in
           finished s storage keys p kind address count buffer two-found (sym decided ∙ clear)
           (rw all at

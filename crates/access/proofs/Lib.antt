@@ -1,6 +1,5 @@
 -- What the proofs about accesses share.
 pub mod Spans
-pub mod Moves
 pub mod Checks
 pub mod Completed
 pub mod InUnits

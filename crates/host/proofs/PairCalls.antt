@@ -1,13 +1,11 @@
 -- Calls are steps over the pair: with sixteen bytes of records, what a call answers and leaves is what the step over the pair in these bytes
 -- answers and leaves. So conditions 1 to 3, which speak of that step, speak of calls. The bytes of a record that is written are read again,
 -- and those of the other are not touched. Assumes nothing.
-use Prim.Native.Nat.{ℕ, zero, suc, _+_, _*_, _<_, _≤_}
-use mathlib.Core.Path.{_≡_, refl, sym, ap, _∙_}
-use mathlib.Core.Bool.{true}
+use Prim.Native.Nat.{ℕ, zero, suc, _+_, _*_, _<_}
+use mathlib.Core.Path.{_≡_, refl, sym, ap}
 use mathlib.Core.List.{List, [], _∷_}
 use mathlib.Core.Option.{some}
 use native.Mathlib.Decide.{ℕ-discrete, decLt}
-use native.Mathlib.Nat.{add-zero}
 use native.Mathlib.Omega.{arith}
 use lib.ListN.{length, getD, set}
 use borrow.Author.Tests.{eq-eqb, ne-eqb, lt-ltb, le-ltb}
@@ -23,25 +21,11 @@ use Rattle.machine.proofs.Written.{written-elsewhere}
 use Rattle.machine.proofs.Requests.{either-way, refused-changes-nothing}
 use Rattle.machine.proofs.Pairs.{own-step, other-number-refused}
 use Rattle.host.specs.Boundary.{recordAt, recordBytes, packed, CallOutcome, callOutcome, recordsLeft, calledWith}
-use Rattle.host.proofs.Records.{written-record-is-read}
+use Rattle.host.proofs.Records.{same-record, written-record-is-read}
 
 -- the pair of records in sixteen bytes, processor 0's first
 abbrev pub pairOf : List ℕ → List Processor
 pairOf bytes = recordAt bytes 0 ∷ recordAt bytes 8 ∷ []
-
--- the record that is read depends on its eight bytes alone
-same-record : (xs ys : List ℕ) (at : ℕ) → ((i : ℕ) → i < 8 → getD xs (at + i) 0 ≡ getD ys (at + i) 0) → recordAt xs at ≡ recordAt ys at
-same-record xs ys at e =
-    rw (
-      rw (add-zero at) at (e 0 (omega arith)),
-      e 1 (omega arith),
-      e 2 (omega arith),
-      e 3 (omega arith),
-      e 4 (omega arith),
-      e 5 (omega arith),
-      e 6 (omega arith),
-      e 7 (omega arith),
-    )
 
 -- a request leaves a prefix of 32 bits
 prefix-fits : (s : Settings) (storage keys : List ℕ) (p : Processor) (r : Request) (buffer : List ℕ) → p .prefix < 4294967296
@@ -63,7 +47,7 @@ module _ (records : List ℕ) (sized : length records ≡ 16) where
 
   other-bytes : (n m : ℕ) (q : Processor) → ((i j : ℕ) → i < 8 → j < 8 → n * 8 + i ≡ m + j → ⊥) → recordAt (put n q) m ≡ recordAt records m
   other-bytes n m q apart =
-      same-record (put n q) records m (λ j h. written-elsewhere records (λ i. n * 8 + i) _ 8 (m + j) (λ i l e. apart i j l h e))
+      same-record (put n q) records m m (λ j h. written-elsewhere records (λ i. n * 8 + i) _ 8 (m + j) (λ i l e. apart i j l h e))
 
   put-pair : (n : ℕ) (q : Processor) → n < 2 → q .prefix < 4294967296 → pairOf (put n q) ≡ set (pairOf records) n q
   put-pair zero q h small =

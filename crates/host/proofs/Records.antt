@@ -7,7 +7,7 @@ use mathlib.Core.Bool.{Bool, true, false, cond}
 use mathlib.Core.List.{List, [], _∷_}
 use native.Mathlib.Decide.{ℕ-discrete}
 use native.Mathlib.Omega.{arith}
-use native.Mathlib.Nat.{add-zero}
+use native.Mathlib.Nat.{add-zero, zero-add}
 use lib.ListN.{length, getD, set}
 use lib.Seq.{getD-append-add, getD-set-other, set-getD, set-comm}
 use lib.Dec.{eqb, ltb}
@@ -44,11 +44,11 @@ four-bytes x h =
     let d : x / 16777216 % 256 ≡ x / 16777216 = omega arith in
     omega arith
 
-read-bytes : (bytes : List ℕ) (at : ℕ) (p : Processor) → p .prefix < 4294967296 → Holds bytes at p → recordAt bytes at ≡ p
-read-bytes bytes at p small e =
-    let back = joined-back (p .problem) (p .«low_protection») (p .«key_control») in
+-- the record that is read depends on its eight bytes alone
+pub same-record : (xs ys : List ℕ) (a b : ℕ) → ((i : ℕ) → i < 8 → getD xs (a + i) 0 ≡ getD ys (b + i) 0) → recordAt xs a ≡ recordAt ys b
+same-record xs ys a b e =
     rw (
-      rw (add-zero at) at (e 0 (omega arith)),
+      rw (add-zero a, add-zero b) at (e 0 (omega arith)),
       e 1 (omega arith),
       e 2 (omega arith),
       e 3 (omega arith),
@@ -56,12 +56,15 @@ read-bytes bytes at p small e =
       e 5 (omega arith),
       e 6 (omega arith),
       e 7 (omega arith),
-      lt-ltb _ _ (back .0),
-      back .1,
-      back .2,
-      back .3,
-      four-bytes (p .prefix) small,
     )
+
+read-bytes : (bytes : List ℕ) (at : ℕ) (p : Processor) → p .prefix < 4294967296 → Holds bytes at p → recordAt bytes at ≡ p
+read-bytes bytes at p small e = same-record bytes (recordBytes p) at 0 (λ i h. rw (zero-add i) (e i h)) ∙ read
+  where
+    read : recordAt (recordBytes p) 0 ≡ p
+    read =
+        let back = joined-back (p .problem) (p .«low_protection») (p .«key_control») in
+        rw (lt-ltb _ _ (back .0), back .1, back .2, back .3, four-bytes (p .prefix) small)
 
 -- a record is read from where it was written
 pub written-record-is-read : (bytes : List ℕ) (at : ℕ) (p : Processor) → length bytes ≡ 16 → at ≤ 8 → p .prefix < 4294967296

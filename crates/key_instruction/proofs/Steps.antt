@@ -18,10 +18,10 @@ use Rattle.machine.specs.Numbers.{unitOf}
 use Rattle.machine.specs.Answers.{answerOf, stops}
 use Rattle.machine.specs.Prefixing.{absolute}
 use Rattle.machine.specs.KeyInstructions.{keyCount, twoKeys, wordGiven, keysLeft, codeLeft}
-use Rattle.machine.specs.Table.{addressing, absoluteAddressing, beforeProtection, verdict}
+use Rattle.machine.specs.Table.{addressing, absoluteAddressing, beforeProtection}
 use Rattle.machine.specs.Step.{withCode, outcome, completed, step}
 use Rattle.machine.proofs.Verdicts.{not-both, stops-not}
-use Rattle.machine.proofs.Requests.{refused-request, completed-request, no-protection}
+use Rattle.machine.proofs.Requests.{refused-instruction, completed-instruction}
 use Rattle.machine.proofs.KeyInstructions.{key-instruction-passed}
 use Rattle.key_instruction.specs.declared.decode.Decoded.{Decoded}
 use Rattle.key_instruction.specs.Decoded.{decodedOf, decodedVerdict}
@@ -60,11 +60,11 @@ module _ (s : Settings) (storageLength keyLength : ℕ) (p : Processor) (i : Key
 -- And with the storage and the keys at hand, the step.
 module _ (s : Settings) (storage keys : List ℕ) (p : Processor) (i : KeyInstruction) {d : Decoded} {v : Verdict}
     (fields : d ≡ decodedOf i) (found : v ≡ decodedVerdict s (length storage) (length keys) p d) where
-  table-found : v ≡ verdict s (length storage) keys p (Key i) 0
-  table-found = lines-found s _ _ p i fields found ∙ sym (no-protection s (length storage) keys p (Key i) 0 tt)
+  instruction-found : v ≡ beforeProtection s (length storage) (length keys) p (Key i) 0
+  instruction-found = lines-found s _ _ p i fields found
 
   pub refused : {b : Bool} → b ≡ stops v → b ≡ true → outcome (answerOf v 0) storage keys p [] ≡ step s storage keys p (Key i) []
-  refused asked e = refused-request s storage keys p (Key i) [] table-found 0 (sym asked ∙ e)
+  refused asked e = refused-instruction s storage keys p (Key i) tt instruction-found 0 (sym asked ∙ e)
 
   pub operated : {b : Bool} → b ≡ stops v → b ≡ false
       → outcome (Completed (wordGiven keys (blockUnit s p d) (onTwo s d) (d .operation)))
@@ -74,4 +74,4 @@ module _ (s : Settings) (storage keys : List ℕ) (p : Processor) (i : KeyInstru
       []
       ≡ step s storage keys p (Key i) []
   unfolding completed decodedOf
-  operated asked e = rw fields (completed-request s storage keys p (Key i) [] table-found (sym asked ∙ e))
+  operated asked e = rw fields (completed-instruction s storage keys p (Key i) tt instruction-found (sym asked ∙ e))

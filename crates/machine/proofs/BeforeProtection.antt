@@ -17,7 +17,7 @@ use Rattle.machine.specs.declared.Request.the-variants.{Access}
 use Rattle.machine.specs.declared.Reason.the-variants.{Addressing}
 use Rattle.machine.specs.declared.Verdict.the-variants.{Clear}
 use Rattle.machine.specs.Numbers.{storageMaximum, operandLimit, storageValid, lengthsValid, recordValid, unitSize, unitOf, add24}
-use Rattle.machine.specs.Answers.{line, firstOf, firstLine}
+use Rattle.machine.specs.Answers.{firstLine}
 use Rattle.machine.specs.Prefixing.{absolute, byteAt}
 use Rattle.machine.specs.Table.{operandInvalid, addressing, beforeProtection, verdict}
 use Rattle.machine.proofs.Verdicts.{both, neither, line-clear, first-clear, bytes-clear}
@@ -85,12 +85,12 @@ pub operands-passed : (kind : AccessKind) (address count bufferLength : ℕ) →
     → (0 < count) × (count ≤ 256) × (count ≤ bufferLength)
 operands-passed kind address count bufferLength e =
     let (before, buffered) = neither _ (ltb bufferLength count) e in
-    let (some, short) = neither (eqb count 0) _ (neither _ (leb operandLimit address) before .0) in
-    (pos-of-ne-zero (eqb-false count 0 some), ltb-false _ _ short, ltb-false _ _ buffered)
+    let (not-zero, short) = neither (eqb count 0) _ (neither _ (leb operandLimit address) before .0) in
+    (pos-of-ne-zero (eqb-false count 0 not-zero), ltb-false _ _ short, ltb-false _ _ buffered)
 
 -- what is known of an access that the lines before protection let pass
 pub record AccessCleared (storageLength : ℕ) (p : Processor) (address count bufferLength : ℕ) : Type 0 where
-  pub some : 0 < count
+  pub positive : 0 < count
   pub short : count ≤ 256
   pub buffered : count ≤ bufferLength
   pub byte-inside : (i : ℕ) → i < count → byteAt p address i < storageLength
@@ -106,9 +106,9 @@ module _ (s : Settings) (storageLength keyLength : ℕ) (p : Processor) (kind : 
   pub access-cleared : AccessCleared storageLength p address count bufferLength
   unfolding addressing
   access-cleared =
-      let (some, short, buffered) = operands-passed kind address count bufferLength (lines .operands) in
+      let (positive, short, buffered) = operands-passed kind address count bufferLength (lines .operands) in
       record {
-        some = some;
+        positive = positive;
         short = short;
         buffered = buffered;
         byte-inside = λ i h.

@@ -26,7 +26,7 @@ use Rattle.machine.specs.Step.{step}
 use Rattle.machine.specs.Pair.{withoutRecord, served, pairStep}
 use Rattle.machine.specs.Units.{unitCount, unitAt, names}
 use Rattle.machine.specs.Turns.{State, Turn, given, named, namedBy}
-use Rattle.machine.proofs.Verdicts.{not-both, not-clear, bytes-stopped, Never, never-line, never-first, never-bytes, tested}
+use Rattle.machine.proofs.Verdicts.{not-both, bytes-stopped, Never, never-line, never-first, never-bytes}
 use Rattle.machine.proofs.Units.{named-at, named-by}
 use Rattle.machine.proofs.BeforeProtection.{access-cleared}
 use Rattle.machine.proofs.Requests.{by-verdict, completed-number, completed-cleared, completed-by-table, no-protection}
@@ -116,7 +116,7 @@ module _ (s : Settings) (storage keys : List ℕ) (p : Processor) (buffer : List
       named : before (Access kind address count) ≡ Clear → Names (Access kind address count)
       named e =
           cleared-names (Access kind address count) e
-          (access-cleared s (length storage) (length keys) p kind address count (length buffer) e .some)
+          (access-cleared s (length storage) (length keys) p kind address count (length buffer) e .positive)
 
       completed : answered (Access kind address count) ≡ 0 → Names (Access kind address count)
       completed h = named (completed-cleared s storage keys p (Access kind address count) buffer h)

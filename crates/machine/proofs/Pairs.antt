@@ -11,16 +11,14 @@ use native.Mathlib.Decide.{ℕ-discrete}
 use native.Mathlib.Omega.{arith}
 use lib.Dec.{ltb}
 use lib.ListN.{length, getD, set, getElem?}
-use borrow.Author.Tests.{ltb-true, lt-ltb, le-ltb}
+use borrow.Author.Tests.{ltb-true, le-ltb}
 use Rattle.machine.specs.declared.Settings.{Settings}
 use Rattle.machine.specs.declared.Processor.{Processor}
 use Rattle.machine.specs.declared.Request.{Request}
-use Rattle.machine.specs.declared.Verdict.the-variants.{Clear, Stop}
 use Rattle.machine.specs.Lists.{recordOf}
 use Rattle.machine.specs.Answers.{Values, values, answerOf}
-use Rattle.machine.specs.Step.{Outcome, step}
+use Rattle.machine.specs.Step.{step}
 use Rattle.machine.specs.Pair.{PairOutcome, putBack, withoutRecord, served, pairStep}
-use Rattle.machine.proofs.Verdicts.{tested, not-both}
 use Rattle.machine.proofs.Requests.{refused-changes-nothing}
 
 -- Lists by lookup.

@@ -85,7 +85,7 @@ module _ (s : Settings) (storage keys : List ℕ) (p : Processor) (r : Request) 
   -- the law of a table for the step
   by-line : (earlier : List Line) (l : Line) (later : List Line) → AllSound (earlier ++ (l ∷ later)) → answered ≡ shown (tableOf (earlier ++ (l ∷ later)))
       → NumberedOther (l .number) earlier → NumberedOther (l .number) later → l .number ≢ 0 → (answered ≡ l .number) ↔ (NoneOf earlier × l .Applies)
-  by-line earlier l later sounds e before after some = rw e (line-answers earlier l later sounds before after some)
+  by-line earlier l later sounds e before after nonzero = rw e (line-answers earlier l later sounds before after nonzero)
 
   -- a request is refused with the number of a line exactly when none of the lines above it applies and its own sentence holds
   pub refused-64 : (answered ≡ 64) ↔ Line64 s (length storage) (length keys)

@@ -218,26 +218,26 @@ rows =
     ∷ []
 
 -- what is seen of a request: its answer, the key array, the prefix and the condition code
-pub record Seen : Type 0 where
+pub record RowOutcome : Type 0 where
   pub answer : Values
   pub keys : List ℕ
   pub prefix : ℕ
   pub code : ℕ
 
-abbrev seen : Outcome → Seen
+abbrev seen : Outcome → RowOutcome
 seen o = record { answer = o .answer; keys = o .keys; prefix = o .processor .prefix; code = o .processor .code }
 
 -- by the row
-abbrev due : Row → Seen
+abbrev due : Row → RowOutcome
 due (done m p r buffer word keys prefix code) = record { answer = record { number = 0; place = 0; word = word }; keys = keys; prefix = prefix; code = code }
 due (refused m p r buffer number place) =
     record { answer = record { number = number; place = place; word = 0 }; keys = m .keys; prefix = p .prefix; code = p .code }
 
 -- and by the rules, which look at storage and buffer only by their lengths
-abbrev byLengths : Machine → Processor → Request → ℕ → Seen
+abbrev byLengths : Machine → Processor → Request → ℕ → RowOutcome
 byLengths m p r buffer = seen (performed (verdict (m .settings) (m .storageLength) (m .keys) p r buffer) (m .settings) [] (m .keys) p r [])
 
-abbrev given : Row → Seen
+abbrev given : Row → RowOutcome
 given (done m p r buffer word keys prefix code) = byLengths m p r buffer
 given (refused m p r buffer number place) = byLengths m p r buffer
 
@@ -247,21 +247,21 @@ unfolding written keyOf afterFetch afterStore afterReset codeOf joined line firs
 rows-computed = refl
 
 -- the claim: on every storage and with every buffer of these lengths the step gives what the row says
-abbrev MetBy : Machine → Processor → Request → ℕ → Seen → Type 0
-MetBy m p r bufferLength x =
+abbrev RowMetBy : Machine → Processor → Request → ℕ → RowOutcome → Type 0
+RowMetBy m p r bufferLength x =
     (storage buffer : List ℕ) → length storage ≡ m .storageLength → length buffer ≡ bufferLength
     → seen (step (m .settings) storage (m .keys) p r buffer) ≡ x
 
-abbrev pub Met : Row → Type 0
-Met (done m p r buffer word keys prefix code) = MetBy m p r buffer (due (done m p r buffer word keys prefix code))
-Met (refused m p r buffer number place) = MetBy m p r buffer (due (refused m p r buffer number place))
+abbrev pub RowMet : Row → Type 0
+RowMet (done m p r buffer word keys prefix code) = RowMetBy m p r buffer (due (done m p r buffer word keys prefix code))
+RowMet (refused m p r buffer number place) = RowMetBy m p r buffer (due (refused m p r buffer number place))
 
-abbrev pub AllMet : List Row → Type 0
-AllMet [] = Unit {0}
-AllMet (x ∷ xs) = Met x × AllMet xs
+abbrev pub RowsMet : List Row → Type 0
+RowsMet [] = Unit {0}
+RowsMet (x ∷ xs) = RowMet x × RowsMet xs
 
 -- what is seen does not depend on what storage and buffer hold
-lengths-suffice : (m : Machine) (p : Processor) (r : Request) (bufferLength : ℕ) → MetBy m p r bufferLength (byLengths m p r bufferLength)
+lengths-suffice : (m : Machine) (p : Processor) (r : Request) (bufferLength : ℕ) → RowMetBy m p r bufferLength (byLengths m p r bufferLength)
 unfolding step performed completed
 lengths-suffice m p r bufferLength storage buffer h k = rw (h, k) (go (verdict (m .settings) (m .storageLength) (m .keys) p r bufferLength) r)
   where
@@ -271,13 +271,13 @@ lengths-suffice m p r bufferLength storage buffer h k = rw (h, k) (go (verdict (
     go Clear (Key i) = refl
     go Clear (Prefix i) = refl
 
-each-met : (xs : List Row) → map given xs ≡ map due xs → AllMet xs
+each-met : (xs : List Row) → map given xs ≡ map due xs → RowsMet xs
 each-met [] e = tt
 each-met (x ∷ xs) e = (one x (cc), each-met xs (cc))
   where
-    one : (x : Row) → given x ≡ due x → Met x
+    one : (x : Row) → given x ≡ due x → RowMet x
     one (done m p r buffer word keys prefix code) q = λ storage lent h k. lengths-suffice m p r buffer storage lent h k ∙ q
     one (refused m p r buffer number place) q = λ storage lent h k. lengths-suffice m p r buffer storage lent h k ∙ q
 
-pub rows-met : AllMet rows
+pub rows-met : RowsMet rows
 rows-met = each-met rows rows-computed

@@ -1,21 +1,20 @@
 -- The step obeys the laws of actions. What it leaves of each part follows from the laws of a single request. In two states that are alike to it
 -- a request finds the same record and the same verdict of the lines before protection, so it names the same units, and one verdict; where that
 -- is clear, what it leaves and gives back is the same. Assumes nothing.
-use Prim.Native.Nat.{ℕ, _<_}
-use mathlib.Core.Path.{_≡_, refl, sym, ap, _∙_}
+use Prim.Native.Nat.{ℕ}
+use mathlib.Core.Path.{_≡_, refl, sym, ap}
 use mathlib.Core.Bool.{Bool, true, false, cond, _&&_}
 use mathlib.Core.Logic.{⊎-elim}
 use mathlib.Core.Option.{Option, none, some}
 use native.Mathlib.Decide.{ℕ-discrete}
 use native.Mathlib.Omega.{arith}
 use lib.Dec.{eqb, ltb}
-use lib.ListN.{length, getD, set, getElem?}
-use borrow.Author.Tests.{ltb-true, ltb-false, eq-eqb, lt-ltb}
+use lib.ListN.{length, getD, getElem?}
+use borrow.Author.Tests.{ltb-false, eq-eqb}
 use Rattle.machine.specs.declared.Settings.{Settings}
 use Rattle.machine.specs.declared.Processor.{Processor}
 use Rattle.machine.specs.declared.Verdict.{Verdict}
 use Rattle.machine.specs.declared.Verdict.the-variants.{Clear, Stop}
-use Rattle.machine.specs.Lists.{recordOf}
 use Rattle.machine.specs.Numbers.{unitOf}
 use Rattle.machine.specs.Key.{afterFetch}
 use Rattle.machine.specs.Answers.{firstOf}

@@ -71,21 +71,21 @@ table-clears (l ∷ ls) sounds apart =
 
 -- lines with other numbers than n do not give n
 other-numbers : (n : ℕ) (ls : List Line) → AllSound ls → NumberedOther n ls → n ≢ 0 → shown (tableOf ls) ≢ n
-other-numbers n [] sounds apart some e = some (sym e)
-other-numbers n (l ∷ ls) sounds apart some e =
-    other-numbers n ls (sounds .1) (apart .1) some (passed l (sounds .0) n (apart .0) (tableOf ls) .0 e .1)
+other-numbers n [] sounds apart nonzero e = nonzero (sym e)
+other-numbers n (l ∷ ls) sounds apart nonzero e =
+    other-numbers n ls (sounds .1) (apart .1) nonzero (passed l (sounds .0) n (apart .0) (tableOf ls) .0 e .1)
 
 -- the law: a table gives the number of a line exactly when no earlier line applies and this one does
 pub line-answers : (earlier : List Line) (l : Line) (later : List Line) → AllSound (earlier ++ (l ∷ later))
     → NumberedOther (l .number) earlier → NumberedOther (l .number) later → l .number ≢ 0
     → (shown (tableOf (earlier ++ (l ∷ later))) ≡ l .number) ↔ (NoneOf earlier × l .Applies)
 unfolding firstOf
-line-answers (m ∷ earlier) l later sounds before after some =
+line-answers (m ∷ earlier) l later sounds before after nonzero =
     let first = passed m (sounds .0) (l .number) (before .0) (tableOf (earlier ++ (l ∷ later))) in
-    let rest = line-answers earlier l later (sounds .1) (before .1) after some in
+    let rest = line-answers earlier l later (sounds .1) (before .1) after nonzero in
     (λ e. let (a, b) = first .0 e in let (c, d) = rest .0 b in ((a, c), d), λ h. first .1 (h .0 .0, rest .1 (h .0 .1, h .1)))
-line-answers [] l later sounds before after some =
-    go (l .verdict) (sounds .0 .own) (sounds .0 .when) (tableOf later) (other-numbers (l .number) later (sounds .1) after some)
+line-answers [] l later sounds before after nonzero =
+    go (l .verdict) (sounds .0 .own) (sounds .0 .when) (tableOf later) (other-numbers (l .number) later (sounds .1) after nonzero)
   where
     go : (v : Verdict) → Only (l .number) v → (stops v ≡ true) ↔ (l .Applies) → (u : Verdict) → shown u ≢ l .number
         → (shown (firstOf v u) ≡ l .number) ↔ (Unit {0} × l .Applies)
@@ -97,17 +97,17 @@ pub line-places : (earlier : List Line) (l : Line) (later : List Line) → AllSo
     → NumberedOther (l .number) earlier → NumberedOther (l .number) later → l .number ≢ 0
     → (r : Reason) (k : ℕ) → tableOf (earlier ++ (l ∷ later)) ≡ Stop r k → number r ≡ l .number → l .verdict ≡ Stop r k
 unfolding firstOf
-line-places (m ∷ earlier) l later sounds before after some r k e q =
-    go (m .verdict) (sounds .0 .own) (λ rest. line-places earlier l later (sounds .1) (before .1) after some r k rest q) e
+line-places (m ∷ earlier) l later sounds before after nonzero r k e q =
+    go (m .verdict) (sounds .0 .own) (λ rest. line-places earlier l later (sounds .1) (before .1) after nonzero r k rest q) e
   where
     go : (v : Verdict) → Only (m .number) v → (tableOf (earlier ++ (l ∷ later)) ≡ Stop r k → l .verdict ≡ Stop r k)
         → firstOf v (tableOf (earlier ++ (l ∷ later))) ≡ Stop r k → l .verdict ≡ Stop r k
     go Clear own rest e = rest e
     go (Stop x j) own rest e = absurd (before .0 (sym own ∙ ap shown e ∙ q))
-line-places [] l later sounds before after some r k e q = go (l .verdict) e
+line-places [] l later sounds before after nonzero r k e q = go (l .verdict) e
   where
     go : (v : Verdict) → firstOf v (tableOf later) ≡ Stop r k → v ≡ Stop r k
-    go Clear e = absurd (other-numbers (l .number) later (sounds .1) after some (ap shown e ∙ q))
+    go Clear e = absurd (other-numbers (l .number) later (sounds .1) after nonzero (ap shown e ∙ q))
     go (Stop x j) e = e
 
 -- Lines of a table.

@@ -11,7 +11,7 @@ use Rattle.machine.specs.declared.Processor.{Processor}
 use Rattle.machine.specs.declared.Request.{Request}
 use Rattle.machine.specs.declared.Answer.{Answer}
 use Rattle.machine.specs.Lists.{recordOf}
-use Rattle.machine.specs.Answers.{values, answerOf}
+use Rattle.machine.specs.Answers.{answerOf}
 use Rattle.machine.specs.Step.{outcome, step}
 use Rattle.machine.specs.Pair.{putBack, pairOutcome, withoutRecord, pairStep}
 use Rattle.machine.specs.Conditions.{Condition1}

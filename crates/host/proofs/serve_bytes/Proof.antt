@@ -37,7 +37,8 @@ same-length-4 c = search needs
 
 returns : tie.Need-returns
 returns c =
-    let put = c .before .before .before in
+    let records-back = c .before .before in
+    let put = records-back .before in
     let answered = put .before .before in
     let buffer-back = answered .before .before in
     let keys-back = buffer-back .before .before in

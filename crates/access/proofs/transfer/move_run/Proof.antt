@@ -7,7 +7,7 @@ use native.Mathlib.Nat.{le-antisymm}
 use lib.ListN.{getD}
 use Rattle.machine.specs.Lists.{written}
 use Rattle.access.specs.Moving.{moved}
-use Rattle.access.proofs.Moves.{kept-length, one-more, held-then-written}
+use Rattle.machine.proofs.Written.{kept-length, one-more, held-then-written}
 use Rattle.access.proofs.transfer.move_run.Statement.{statement}
 use Rattle.access.proofs.transfer.move_run.Tie as tie
 

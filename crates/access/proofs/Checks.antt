@@ -22,7 +22,7 @@ use Rattle.machine.specs.declared.AccessKind.the-variants.{Fetch, Store}
 use Rattle.machine.specs.declared.Verdict.the-variants.{Clear}
 use Rattle.machine.specs.Numbers.{lengthsValid, recordValid, unitOf, add24}
 use Rattle.machine.specs.Answers.{stops, line, firstOf, firstByte, firstLine}
-use Rattle.machine.specs.Prefixing.{byteAt}
+use Rattle.machine.specs.Prefixing.{byteAddress}
 use Rattle.machine.specs.Protection.{lowProtected, forbidden}
 use Rattle.machine.specs.Table.{absoluteOutside, addressing, absoluteAddressing, protection, beforeProtection, verdict}
 use Rattle.machine.proofs.Verdicts.{neither, line-clear, first-clear, first-of-clear, first-none, first-assoc, skipped, first-of-stop, scan-on}
@@ -67,7 +67,7 @@ module _ (s : Settings) (address : ℕ) where
   outside-steady m e f j same q = lt-leb m (add24 address (f + j)) (real-below s address f j same m e (leb-false m (add24 address f) q))
 
   forbidden-steady : (keys : List ℕ) (p : Processor) (kind : AccessKind)
-      → Steady s address (λ i. forbidden kind p (add24 address i) (getD keys (unitOf s (byteAt p address i)) 0))
+      → Steady s address (λ i. forbidden kind p (add24 address i) (getD keys (unitOf s (byteAddress p address i)) 0))
   forbidden-steady keys p kind f j same q =
       let (high, permitted) = neither (lowProtected kind p (add24 address f)) _ q in
       rw (low-later kind p (add24 address f) (add24 address (f + j)) (omega (arith, real-step s address f j same)) high, unit-same s address f j same p)
@@ -116,7 +116,7 @@ module _ (s : Settings) (storageLength : ℕ) (keys : List ℕ) (p : Processor) 
     test-67 i = absoluteOutside storageLength p (add24 address i)
 
     abbrev test-4 : ℕ → Bool
-    test-4 i = forbidden kind p (add24 address i) (getD keys (unitOf s (byteAt p address i)) 0)
+    test-4 i = forbidden kind p (add24 address i) (getD keys (unitOf s (byteAddress p address i)) 0)
 
     steady-5 : Steady s address test-5
     steady-5 = outside-steady s address storageLength (configured s storageLength (length keys) p lengths own .whole)

@@ -18,7 +18,7 @@ use Rattle.machine.specs.declared.Verdict.the-variants.{Clear}
 use Rattle.machine.specs.Lists.{written}
 use Rattle.machine.specs.Numbers.{unitOf}
 use Rattle.machine.specs.Answers.{answerOf, stops}
-use Rattle.machine.specs.Prefixing.{byteAt}
+use Rattle.machine.specs.Prefixing.{byteAddress}
 use Rattle.machine.specs.Protection.{recorded}
 use Rattle.machine.specs.Table.{beforeProtection, verdict}
 use Rattle.machine.specs.Step.{outcome, storageLeft, bufferLeft, keysRecorded, completed, step}
@@ -82,27 +82,27 @@ module _ (s : Settings) (storage keys : List ℕ) (p : Processor) (kind : Access
       fetched Store = refl
 
   module _ (f n : ℕ) (positive : 0 < n) (one-unit : OneUnit s address f n) where
-    bytes-step : (j : ℕ) → j < n → byteAt p address f + j ≡ byteAt p address (f + j)
+    bytes-step : (j : ℕ) → j < n → byteAddress p address f + j ≡ byteAddress p address (f + j)
     bytes-step j l = byte-step s address f j (one-unit j l) p
 
     storage-on : (kind : AccessKind)
-        → storageMoved kind (storageLeft kind storage p address f buffer) (byteAt p address f) (bufferLeft kind storage p address f buffer) f n
+        → storageMoved kind (storageLeft kind storage p address f buffer) (byteAddress p address f) (bufferLeft kind storage p address f buffer) f n
         ≡ storageLeft kind storage p address (f + n) buffer
     unfolding storageMoved storageLeft bufferLeft
     storage-on Fetch = refl
-    storage-on Store = moved-on (byteAt p address) (λ i. i) storage buffer f n (λ j l. (bytes-step j l, refl))
+    storage-on Store = moved-on (byteAddress p address) (λ i. i) storage buffer f n (λ j l. (bytes-step j l, refl))
 
     buffer-on : (kind : AccessKind)
-        → bufferMoved kind (storageLeft kind storage p address f buffer) (byteAt p address f) (bufferLeft kind storage p address f buffer) f n
+        → bufferMoved kind (storageLeft kind storage p address f buffer) (byteAddress p address f) (bufferLeft kind storage p address f buffer) f n
         ≡ bufferLeft kind storage p address (f + n) buffer
     unfolding bufferMoved storageLeft bufferLeft
-    buffer-on Fetch = moved-on (λ i. i) (byteAt p address) buffer storage f n (λ j l. (refl, bytes-step j l))
+    buffer-on Fetch = moved-on (λ i. i) (byteAddress p address) buffer storage f n (λ j l. (refl, bytes-step j l))
     buffer-on Store = refl
 
     keys-on : keyRecorded kind (keysRecorded s kind keys p address f) (spanAt s keys p address f) ≡ keysRecorded s kind keys p address (f + n)
     unfolding keysRecorded
     keys-on =
-        marked-on (λ u. recorded kind (getD keys u 0)) (λ i. unitOf s (byteAt p address i)) keys f n positive
+        marked-on (λ u. recorded kind (getD keys u 0)) (λ i. unitOf s (byteAddress p address i)) keys f n positive
         (λ j l. unit-same s address f j (one-unit j l) p)
 
     -- the span from byte f on, completed after the first f bytes

@@ -8,7 +8,7 @@ use native.Mathlib.Nat.{mod-lt, div-eq-of-lt, div-eq-of-lt-le, add-zero, zero-ad
 use Rattle.machine.specs.declared.Settings.{Settings}
 use Rattle.machine.specs.declared.Processor.{Processor}
 use Rattle.machine.specs.Numbers.{unitSize, unitOf, add24}
-use Rattle.machine.specs.Prefixing.{byteAt}
+use Rattle.machine.specs.Prefixing.{byteAddress}
 use Rattle.machine.proofs.Prefixing.{blockOf, prefixing-keeps-offset, prefixing-maps-blocks}
 use Rattle.machine.proofs.Units.{unit-holds-access, unit-from, block-of-unit, bytes-in-unit}
 use Rattle.access.specs.ByUnit.{toUnitEnd}
@@ -31,7 +31,7 @@ module _ (s : Settings) (address f j : ℕ) (same : SameUnit s address f j) wher
   real-block : blockOf (add24 address (f + j)) ≡ blockOf (add24 address f)
   real-block = omega (arith, same-block)
 
-  pub byte-step : (p : Processor) → byteAt p address f + j ≡ byteAt p address (f + j)
+  pub byte-step : (p : Processor) → byteAddress p address f + j ≡ byteAddress p address (f + j)
   byte-step p =
       omega (
         arith,
@@ -42,7 +42,7 @@ module _ (s : Settings) (address f j : ℕ) (same : SameUnit s address f j) wher
         prefixing-keeps-offset (p .prefix) (add24 address f),
       )
 
-  pub unit-same : (p : Processor) → unitOf s (byteAt p address (f + j)) ≡ unitOf s (byteAt p address f)
+  pub unit-same : (p : Processor) → unitOf s (byteAddress p address (f + j)) ≡ unitOf s (byteAddress p address f)
   unit-same p = bytes-in-unit s p address (f + j) f same
 
   -- whole blocks hold both or neither

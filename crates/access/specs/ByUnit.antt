@@ -14,7 +14,7 @@ use Rattle.machine.specs.declared.Verdict.{Verdict}
 use Rattle.machine.specs.declared.Verdict.the-variants.{Clear, Stop}
 use Rattle.machine.specs.Numbers.{unitSize, unitOf, add24}
 use Rattle.machine.specs.Answers.{line, firstOf}
-use Rattle.machine.specs.Prefixing.{byteAt}
+use Rattle.machine.specs.Prefixing.{byteAddress}
 use Rattle.machine.specs.Protection.{forbidden}
 use Rattle.machine.specs.Table.{configuration, ownRecord, operandInvalid}
 use Rattle.access.specs.declared.span.Span.{Span}
@@ -28,9 +28,9 @@ abbrev pub spanAt : Settings → List ℕ → Processor → ℕ → ℕ → Span
 spanAt s keys p address i =
     record {
       real = add24 address i;
-      absolute = byteAt p address i;
-      unit = unitOf s (byteAt p address i);
-      key = getD keys (unitOf s (byteAt p address i)) 0;
+      absolute = byteAddress p address i;
+      unit = unitOf s (byteAddress p address i);
+      key = getD keys (unitOf s (byteAddress p address i)) 0;
     }
 
 -- lines 64, 65 and 66

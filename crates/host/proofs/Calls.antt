@@ -19,9 +19,9 @@ use Rattle.machine.specs.Step.{withCode, withPrefix, outcome, step}
 use Rattle.machine.proofs.BeforeProtection.{cleared}
 use Rattle.machine.proofs.Conditions.{answer-in-table}
 use Rattle.machine.proofs.Requests.{refused-changes-nothing, completed-cleared, controls-stay}
-use Rattle.host.specs.Boundary.{recordAt, recordBytes, Holds, packed, Packs, callOutcome, recordsLeft, callServed, CallCondition1}
+use Rattle.host.specs.Boundary.{recordAt, recordBytes, packed, Packs, callOutcome, recordsLeft, callServed, CallCondition1}
 use Rattle.host.specs.Writing.{recordPut}
-use Rattle.host.proofs.Records.{valid-record-is-written, record-put, same-put}
+use Rattle.host.proofs.Records.{Holds, valid-record-is-written, record-put, same-put}
 
 -- condition 1 of a call that changes nothing, whatever its answer
 pub nothing-changes : (answer : Answer) {result : ℕ} {storage keys bytes buffer storage′ keys′ bytes′ buffer′ : List ℕ} → Packs result answer

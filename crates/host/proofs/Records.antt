@@ -18,8 +18,12 @@ use Rattle.machine.specs.Numbers.{recordValid}
 use Rattle.machine.specs.Step.{withCode, withPrefix}
 use Rattle.machine.proofs.Written.{written-there, written-back}
 use Rattle.machine.proofs.Verdicts.{both}
-use Rattle.host.specs.Boundary.{bit, value, reservedZero, recordAt, prefixBytes, recordBytes, Holds}
+use Rattle.host.specs.Boundary.{bit, value, reservedZero, recordAt, prefixBytes, recordBytes}
 use Rattle.host.specs.Writing.{codePut, prefixPut, recordPut}
+
+-- the bytes from `at` on are those of p
+abbrev pub Holds : List ℕ → ℕ → Processor → Type 0
+Holds bytes at p = (i : ℕ) → i < 8 → getD bytes (at + i) 0 ≡ getD (recordBytes p) i 0
 
 -- the three control bits in one number, and back
 abbrev joined : Bool → Bool → Bool → ℕ
@@ -143,7 +147,7 @@ module _ (bytes : List ℕ) (at : ℕ) (p q : Processor) (holds : Holds bytes at
   prefix-held i h =
       getD-set-other bytes (at + 2) (at + (4 + i)) (q .code) 0 (λ e. omega arith)
       ∙ holds (4 + i) (omega arith)
-      ∙ getD-append-add (p .key ∷ joined (p .problem) (p .«low_protection») (p .«key_control») ∷ p .code ∷ 0 ∷ []) (prefixBytes (p .prefix)) i 0
+      ∙ getD-append-add (p .«psw_key» ∷ joined (p .problem) (p .«low_protection») (p .«key_control») ∷ p .code ∷ 0 ∷ []) (prefixBytes (p .prefix)) i 0
 
   prefix-put : prefixPut (set bytes (at + 2) (q .code)) at (p .prefix) (q .prefix)
       ≡ written (set bytes (at + 2) (q .code)) (λ i. at + (4 + i)) (λ i. getD (prefixBytes (q .prefix)) i 0) 4
@@ -159,7 +163,7 @@ module _ (bytes : List ℕ) (at : ℕ) (p q : Processor) (holds : Holds bytes at
   unfolding written
   code-and-prefix-written =
       rw (
-        back 0 (omega arith) (ap (λ r. r .key) kept),
+        back 0 (omega arith) (ap (λ r. r .«psw_key») kept),
         back 1 (omega arith) (ap (λ r. joined (r .problem) (r .«low_protection») (r .«key_control»)) kept),
         set-comm bytes (at + 2) (at + 3) (q .code) 0 (λ e. omega arith),
         back 3 (omega arith) refl,

@@ -1,5 +1,5 @@
 -- The boundary for programs in other languages. A call is the step of the storage unit on what its numbers and bytes stand for.
-use Prim.Native.Nat.{ℕ, _+_, _*_, _/_, _%_, _<_}
+use Prim.Native.Nat.{ℕ, _+_, _*_, _/_, _%_}
 use mathlib.Core.Path.{_≡_}
 use mathlib.Core.Logic.{_≢_}
 use mathlib.Core.Bool.{Bool, true, cond, _&&_}
@@ -39,7 +39,7 @@ reservedZero controls fourth = ltb controls 8 && eqb fourth 0
 abbrev pub recordAt : List ℕ → ℕ → Processor
 recordAt bytes at =
     record {
-      key = cond (reservedZero (getD bytes (at + 1) 0) (getD bytes (at + 3) 0)) (getD bytes at 0) 255;
+      «psw_key» = cond (reservedZero (getD bytes (at + 1) 0) (getD bytes (at + 3) 0)) (getD bytes at 0) 255;
       problem = bit 1 (getD bytes (at + 1) 0);
       «low_protection» = bit 2 (getD bytes (at + 1) 0);
       «key_control» = bit 4 (getD bytes (at + 1) 0);
@@ -58,34 +58,30 @@ prefixBytes x = (x % 256) ∷ (x / 256 % 256) ∷ (x / 65536 % 256) ∷ (x / 167
 -- the eight bytes of a record
 abbrev pub recordBytes : Processor → List ℕ
 recordBytes p =
-    p .key
+    p .«psw_key»
     ∷ (value (p .problem) 1 + value (p .«low_protection») 2 + value (p .«key_control») 4)
     ∷ p .code
     ∷ 0
     ∷ prefixBytes (p .prefix)
 
--- the bytes from `at` on are those of p
-abbrev pub Holds : List ℕ → ℕ → Processor → Type 0
-Holds bytes at p = (i : ℕ) → i < 8 → getD bytes (at + i) 0 ≡ getD (recordBytes p) i 0
-
--- the requests with operands a and b, by the number of the operation
+-- the requests with these operands, by the number of the operation
 abbrev pub requests : ℕ → ℕ → List Request
-requests a b =
-    Access Fetch a b
-    ∷ Access Store a b
-    ∷ Key (Isk a b)
-    ∷ Key (Ssk a b)
-    ∷ Key (Rrb b)
-    ∷ Key (Iske a b)
-    ∷ Key (Sske a b)
-    ∷ Key (Rrbe b)
-    ∷ Prefix (SetPrefix a)
+requests first second =
+    Access Fetch first second
+    ∷ Access Store first second
+    ∷ Key (Isk first second)
+    ∷ Key (Ssk first second)
+    ∷ Key (Rrb second)
+    ∷ Key (Iske first second)
+    ∷ Key (Sske first second)
+    ∷ Key (Rrbe second)
+    ∷ Prefix (SetPrefix first)
     ∷ Prefix StorePrefix
     ∷ []
 
 -- any other number is taken for an access of length 0, which line 66 refuses
 abbrev pub requestOf : ℕ → ℕ → ℕ → Request
-requestOf operation a b = getD (requests a b) operation (Access Fetch 0 0)
+requestOf operation first second = getD (requests first second) operation (Access Fetch 0 0)
 
 -- an answer in one number: the word, the place in sixteen bits from 2^32 on, the number from 2^48 on
 abbrev pub packed : Values → ℕ
@@ -140,9 +136,9 @@ calledWith s storage keys records n r buffer =
 
 -- the call: settings with another bit on are refused by line 64
 unfoldable pub called : ℕ → List ℕ → List ℕ → List ℕ → ℕ → ℕ → ℕ → ℕ → List ℕ → CallOutcome
-called settings storage keys records n operation a b buffer =
+called settings storage keys records n operation first second buffer =
     cond (ltb settings 4)
-    (calledWith (settingsOf settings) storage keys records n (requestOf operation a b) buffer)
+    (calledWith (settingsOf settings) storage keys records n (requestOf operation first second) buffer)
     (callRefused (Stop Configuration 0) storage keys records buffer)
 
 -- condition 1 of a call: it ends with one answer of the table, and one that is not completed changes nothing lent

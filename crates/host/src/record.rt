@@ -39,9 +39,9 @@ pub(crate) fn record_at(bytes: &[u8], at: usize) -> Processor
 {
     let controls = bytes[at + 1];
     let prefix = word(bytes[at + 4], bytes[at + 5], bytes[at + 6], bytes[at + 7]);
-    let key = key_or(bytes[at], (controls < 8) & (bytes[at + 3] == 0));
+    let psw_key = key_or(bytes[at], (controls < 8) & (bytes[at + 3] == 0));
     Processor {
-        key,
+        psw_key,
         problem: controls / 1 % 2 == 1,
         low_protection: controls / 2 % 2 == 1,
         key_control: controls / 4 % 2 == 1,

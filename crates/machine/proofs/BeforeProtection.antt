@@ -18,7 +18,7 @@ use Rattle.machine.specs.declared.Reason.the-variants.{Addressing}
 use Rattle.machine.specs.declared.Verdict.the-variants.{Clear}
 use Rattle.machine.specs.Numbers.{storageMaximum, operandLimit, storageValid, lengthsValid, recordValid, unitSize, unitOf, add24}
 use Rattle.machine.specs.Answers.{firstLine}
-use Rattle.machine.specs.Prefixing.{absolute, byteAt}
+use Rattle.machine.specs.Prefixing.{absolute, byteAddress}
 use Rattle.machine.specs.Table.{operandInvalid, addressing, beforeProtection, verdict}
 use Rattle.machine.proofs.Verdicts.{both, neither, line-clear, first-clear, bytes-clear}
 use Rattle.machine.proofs.Prefixing.{prefixing-stays-inside}
@@ -40,7 +40,7 @@ configured s storageLength keyLength p l r =
       whole = eqb-true _ _ (both _ _ blocks .0);
       reached = omega (arith, leb-true storageLength storageMaximum small);
       keyed = eqb-true _ _ keyed;
-      installed = ltb-true _ _ (both (leb (p .key) 15 && leb (p .code) 3 && eqb (p .prefix % 4096) 0) _ r .1);
+      installed = ltb-true _ _ (both (leb (p .«psw_key») 15 && leb (p .code) 3 && eqb (p .prefix % 4096) 0) _ r .1);
     }
 
 -- and then a real address inside storage has its absolute address inside
@@ -93,7 +93,7 @@ pub record AccessCleared (storageLength : ℕ) (p : Processor) (address count bu
   pub positive : 0 < count
   pub short : count ≤ 256
   pub buffered : count ≤ bufferLength
-  pub byte-inside : (i : ℕ) → i < count → byteAt p address i < storageLength
+  pub byte-inside : (i : ℕ) → i < count → byteAddress p address i < storageLength
 
 module _ (s : Settings) (storageLength keyLength : ℕ) (p : Processor) (kind : AccessKind) (address count bufferLength : ℕ)
     (clear : beforeProtection s storageLength keyLength p (Access kind address count) bufferLength ≡ Clear) where
@@ -117,5 +117,5 @@ module _ (s : Settings) (storageLength keyLength : ℕ) (p : Processor) (kind : 
       }
 
   -- the keys of the units that it touches are in the key array
-  pub access-keyed : (i : ℕ) → i < count → unitOf s (byteAt p address i) < keyLength
-  access-keyed i h = rw (known .keyed) (unit-inside s storageLength (byteAt p address i) (known .whole) (access-cleared .byte-inside i h))
+  pub access-keyed : (i : ℕ) → i < count → unitOf s (byteAddress p address i) < keyLength
+  access-keyed i h = rw (known .keyed) (unit-inside s storageLength (byteAddress p address i) (known .whole) (access-cleared .byte-inside i h))

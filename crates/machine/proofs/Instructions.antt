@@ -22,8 +22,8 @@ use Rattle.machine.specs.declared.Answer.the-variants.{Completed}
 use Rattle.machine.specs.Lists.{written}
 use Rattle.machine.specs.Key.{accessControl, fetchProtection, reference, change, keyOf, afterReset, codeOf, joined}
 use Rattle.machine.specs.Prefixing.{absolute}
-use Rattle.machine.specs.KeyInstructions.{operation, twoKeys, keyCount, wordGiven, keysLeft, codeLeft}
-use Rattle.machine.specs.Step.{Outcome, outcome, withCode, firstUnit, completed, step}
+use Rattle.machine.specs.KeyInstructions.{operation, twoKeys, keyCount, wordGiven, keysLeft, codeLeft, firstUnit}
+use Rattle.machine.specs.Step.{Outcome, outcome, withCode, completed, step}
 use Rattle.machine.proofs.Verdicts.{not-both}
 use Rattle.machine.proofs.Written.{length-written, written-there, written-elsewhere}
 use Rattle.machine.proofs.KeyInstructions.{key-instruction-passed}
@@ -73,7 +73,7 @@ pub record Sets (storage keys : List ℕ) (p : Processor) (buffer : List ℕ) (u
 
 -- the record q is p in all fields but the condition code
 pub record CodeOnly (p q : Processor) : Type 0 where
-  pub key-stays : q .key ≡ p .key
+  pub key-stays : q .«psw_key» ≡ p .«psw_key»
   pub problem-stays : q .problem ≡ p .problem
   pub low-protection-stays : q .«low_protection» ≡ p .«low_protection»
   pub key-control-stays : q .«key_control» ≡ p .«key_control»

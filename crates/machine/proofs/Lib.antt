@@ -24,7 +24,6 @@ pub mod PrefixInstructions
 pub mod Rows
 -- A request over the pair of records
 pub mod Pairs
-pub mod Conditions
 pub mod Order
 -- Condition 3: the law about lists of actions, and that the step obeys it
 pub mod Actions
@@ -35,3 +34,5 @@ pub mod Steps
 pub mod Turns
 pub mod TurnFacts
 pub mod Naming
+-- The conditions
+pub mod Conditions

@@ -170,3 +170,13 @@ turn-names-exactly-when s m t = go (recordFound m t)
     go none =
         ((λ n. absurd (not-both (n .1) refl)), λ n. absurd (no-naming (t .request) _ (without-number s (length (m .storage)) (length (m .keys))) n))
     go (some p) = names-exactly-when s (m .storage) (m .keys) p (t .buffer) (t .request)
+
+-- What a turn names depends on the settings, the lengths of storage and key array, its own record and the turn itself: so it names in any run
+-- what it names where its list runs alone
+pub names-by-own-record : (s : Settings) (m o : State) (t : Turn) → recordFound m t ≡ recordFound o t
+    → length (m .storage) ≡ length (o .storage) → length (m .keys) ≡ length (o .keys) → (u : ℕ) → named s u m t ≡ named s u o t
+names-by-own-record s m o t found storages keys u = rw found (go (recordFound o t))
+  where
+    go : (f : Option Processor) → namedBy f s u m t ≡ namedBy f s u o t
+    go none = refl
+    go (some p) = rw (storages, keys)

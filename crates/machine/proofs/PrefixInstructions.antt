@@ -1,10 +1,11 @@
 -- Real to absolute, SET PREFIX and STORE PREFIX in document 01's sentences, with words taken apart in numbers. Completion is the law of every
 -- instruction; what is left is computed from the completed request.
 -- Assumes nothing.
-use Prim.Native.Nat.{ℕ, _+_, _*_, _/_, _%_, _<_}
+use Prim.Native.Nat.{ℕ, _+_, _*_, _/_, _%_, _<_, _≤_}
 use mathlib.Core.Path.{_≡_, refl}
 use mathlib.Core.Logic.{_≢_, _↔_, Iff·trans, Iff·rfl, and-true}
 use mathlib.Core.List.{List}
+use native.Mathlib.Decide.{ℕ-discrete, decLt, decLe}
 use native.Mathlib.Omega.{arith}
 use lib.ListN.{length}
 use borrow.Author.Tests.{eq-eqb, ne-eqb}
@@ -14,9 +15,10 @@ use Rattle.machine.specs.declared.PrefixInstruction.{PrefixInstruction}
 use Rattle.machine.specs.declared.PrefixInstruction.the-variants.{SetPrefix, StorePrefix}
 use Rattle.machine.specs.declared.Request.the-variants.{Prefix}
 use Rattle.machine.specs.Bits.{bits}
-use Rattle.machine.specs.Prefixing.{absolute}
+use Rattle.machine.specs.Prefixing.{absolute, prefixOf}
 use Rattle.machine.specs.Step.{Outcome, completed, step}
 use Rattle.machine.proofs.Requests.{completed-step}
+use Rattle.machine.proofs.Sentences.{too-long, prefix-in-block, prefix-outside}
 use Rattle.machine.proofs.Instructions.{Ready, inside-storage, completes-when}
 
 -- a real address of 31 bits in block b at place c, with the prefix at block q: bits 1-19 are b, the prefix's are q, bits 20-31 are c
@@ -58,7 +60,7 @@ module _ (q b c : ℕ) (prefix-block : q < 524288) (block : b < 524288) (place :
 pub record Installs (storage keys : List ℕ) (p : Processor) (buffer : List ℕ) (prefix : ℕ) (o : Outcome) : Type 0 where
   pub word-zero : o .answer .word ≡ 0
   pub prefix-set : o .processor .prefix ≡ prefix
-  pub key-stays : o .processor .key ≡ p .key
+  pub key-stays : o .processor .«psw_key» ≡ p .«psw_key»
   pub problem-stays : o .processor .problem ≡ p .problem
   pub low-protection-stays : o .processor .«low_protection» ≡ p .«low_protection»
   pub key-control-stays : o .processor .«key_control» ≡ p .«key_control»
@@ -120,8 +122,30 @@ module _ (s : Settings) (storage keys : List ℕ) (p : Processor) (buffer : List
       Iff·trans (completes-when s storage keys p buffer _ Iff·rfl (λ f. f) {Q = Unit {0}} (λ h. tt, λ h. (λ f. f, λ f. f, λ f. f, λ f. f, λ f. f)))
       and-true
 
+  -- the prefix that it gives has no other bits
+  prefix-alone : Prepared → prefixOf (p .prefix) ≡ p .prefix
+  prefix-alone ready = omega (arith, in-block (ℕ-discrete (p .prefix % 4096) 0), below (decLe (length storage) (p .prefix)))
+    where
+      in-block : Dec (p .prefix % 4096 ≡ 0) → p .prefix % 4096 ≡ 0
+      in-block (yes e) = e
+      in-block (no d) = absurd (ready .own-record (prefix-in-block d))
+
+      short : Dec (16777216 < length storage) → length storage ≤ 16777216
+      short (yes l) = absurd (ready .configured (too-long l))
+      short (no l) = omega arith
+
+      below : Dec (length storage ≤ p .prefix) → p .prefix < 16777216
+      below (yes l) = absurd (ready .own-record (prefix-outside l))
+      below (no l) = omega (arith, short (decLt 16777216 (length storage)))
+
   pub store-prefix-gives : Completes StorePrefix → Stores storage keys p buffer (left StorePrefix)
   unfolding completed
   store-prefix-gives done =
       rw (completed-step s storage keys p (Prefix StorePrefix) buffer done)
-      (record { word-given = refl; record-stays = refl; storage-stays = refl; keys-stay = refl; buffer-stays = refl })
+      (record {
+        word-given = prefix-alone (store-prefix-completes .0 done);
+        record-stays = refl;
+        storage-stays = refl;
+        keys-stay = refl;
+        buffer-stays = refl;
+      })

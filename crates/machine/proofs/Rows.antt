@@ -45,7 +45,7 @@ machine four extensions storageLength keys =
 -- PSW key, problem state, CR0 bit 7, prefix, condition code
 abbrev processor : ℕ → Bool → Bool → ℕ → ℕ → Processor
 processor key problem control prefix code =
-    record { key = key; problem = problem; «low_protection» = false; «key_control» = control; prefix = prefix; code = code }
+    record { «psw_key» = key; problem = problem; «low_protection» = false; «key_control» = control; prefix = prefix; code = code }
 
 -- in supervisor state with CR0 bit 7 one, and with CR0 bit 7 zero; and in problem state
 abbrev on : ℕ → ℕ → Processor

@@ -39,7 +39,7 @@ pub data Line64 (s : Settings) (storageLength keyLength : ℕ) : Type 0 where
 
 -- 65: the processor's own PSW key is over 15, its condition code over 3, or its prefix isn't a multiple of 4,096 below the storage length
 pub data Line65 (storageLength : ℕ) (p : Processor) : Type 0 where
-  key-over-15 : 15 < p .key → Line65 storageLength p
+  key-over-15 : 15 < p .«psw_key» → Line65 storageLength p
   code-over-3 : 3 < p .code → Line65 storageLength p
   prefix-in-block : p .prefix % 4096 ≢ 0 → Line65 storageLength p
   prefix-outside : storageLength ≤ p .prefix → Line65 storageLength p
@@ -136,8 +136,8 @@ abbrev pub Differ : ℕ → ℕ → Type 0
 Differ accessKey k = (accessKey ≢ 0) × (accessKey ≢ k / 16 % 16)
 
 abbrev pub Forbidden : AccessKind → Processor → ℕ → ℕ → Type 0
-Forbidden Store p real k = ((p .«low_protection» ≡ true) × (real < 512)) ⊎ Differ (p .key) k
-Forbidden Fetch p real k = Differ (p .key) k × (k / 8 % 2 ≡ 1)
+Forbidden Store p real k = ((p .«low_protection» ≡ true) × (real < 512)) ⊎ Differ (p .«psw_key») k
+Forbidden Fetch p real k = Differ (p .«psw_key») k × (k / 8 % 2 ≡ 1)
 
 -- the key of the unit of a real address: the address is prefixed, and a unit has 4,096 bytes with the 4K facility, 2,048 without it
 abbrev pub keyAt : Settings → List ℕ → Processor → ℕ → ℕ
@@ -180,11 +180,11 @@ pub tells-65 : (storageLength : ℕ) (p : Processor) → Tells (not (recordValid
 tells-65 storageLength p =
     Iff·trans
     (off _ (not-both-hold _ _
-    (not-both-hold _ _ (not-both-hold _ _ (over (p .key) 15) (over (p .code) 3)) (unequal (p .prefix % 4096) 0))
+    (not-both-hold _ _ (not-both-hold _ _ (over (p .«psw_key») 15) (over (p .code) 3)) (unequal (p .prefix % 4096) 0))
     (not-below (p .prefix) storageLength)))
     (⊎-elim (⊎-elim (⊎-elim key-over-15 code-over-3) prefix-in-block) prefix-outside, from)
   where
-    from : Line65 storageLength p → Four (15 < p .key) (3 < p .code) (p .prefix % 4096 ≢ 0) (storageLength ≤ p .prefix)
+    from : Line65 storageLength p → Four (15 < p .«psw_key») (3 < p .code) (p .prefix % 4096 ≢ 0) (storageLength ≤ p .prefix)
     from (key-over-15 h) = inl (inl (inl h))
     from (code-over-3 h) = inl (inl (inr h))
     from (prefix-in-block h) = inl (inr h)
@@ -262,8 +262,8 @@ differ accessKey k = neither-holds _ _ (unequal accessKey 0) (unequal accessKey 
 
 pub tells-forbidden : (kind : AccessKind) (p : Processor) (real k : ℕ) → Tells (forbidden kind p real k) (Forbidden kind p real k)
 unfolding permitted lowProtected
-tells-forbidden Store p real k = either _ _ (both-hold _ _ Iff·rfl (below real 512)) (off (matches (p .key) k) (differ (p .key) k))
-tells-forbidden Fetch p real k = off (matches (p .key) k || eqb (k / 8 % 2) 0) (neither-holds _ _ (differ (p .key) k) on)
+tells-forbidden Store p real k = either _ _ (both-hold _ _ Iff·rfl (below real 512)) (off (matches (p .«psw_key») k) (differ (p .«psw_key») k))
+tells-forbidden Fetch p real k = off (matches (p .«psw_key») k || eqb (k / 8 % 2) 0) (neither-holds _ _ (differ (p .«psw_key») k) on)
   where
     on : Denies (eqb (k / 8 % 2) 0) (k / 8 % 2 ≡ 1)
     on = Iff·trans (unequal (k / 8 % 2) 0) (λ h. omega arith, λ h e. omega arith)

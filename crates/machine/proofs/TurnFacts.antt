@@ -36,7 +36,7 @@ abbrev settings : Settings
 settings = record { «four_k» = false; extensions = true }
 
 abbrev processor : ℕ → Processor
-processor prefix = record { key = 0; problem = false; «low_protection» = false; «key_control» = false; prefix = prefix; code = 0 }
+processor prefix = record { «psw_key» = 0; problem = false; «low_protection» = false; «key_control» = false; prefix = prefix; code = 0 }
 
 abbrev start : List ℕ → State
 start storage = record { storage = storage; keys = replicate 32 0; processors = processor 0 ∷ processor 4096 ∷ [] }

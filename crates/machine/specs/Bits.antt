@@ -12,7 +12,7 @@ bits first last word = field 32 first last word
 abbrev pub keyBits : ℕ → ℕ → ℕ → ℕ
 keyBits first last k = field 8 first last k
 
--- a word in which bits first to last have this value and all others are zero
+-- a word in which a value stands in the bits that end with bit last, and all other bits are zero. The value fits these bits
 abbrev pub placed : ℕ → ℕ → ℕ
 placed last value = value * 2 ^ (31 - last)
 
@@ -20,6 +20,6 @@ placed last value = value * 2 ^ (31 - last)
 abbrev pub onlyBits : ℕ → ℕ → ℕ → ℕ
 onlyBits first last word = placed last (bits first last word)
 
--- the word with bits first to last replaced by this value; the other bits stay
+-- the word with bits first to last replaced by a value that fits them; the other bits stay
 abbrev pub replaceBits : ℕ → ℕ → ℕ → ℕ → ℕ
 replaceBits first last value word = word - onlyBits first last word + placed last value

@@ -17,9 +17,10 @@ pub mod KeyInstructions
 pub mod Table
 pub mod Step
 pub mod Pair
-pub mod Conditions
 -- Lists and units named, for the third condition
 pub mod Units
 pub mod Turns
+-- The three conditions
+pub mod Conditions
 -- Table of small facts
 pub mod SmallFacts

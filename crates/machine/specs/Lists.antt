@@ -12,6 +12,6 @@ unfoldable pub written : List ℕ → (ℕ → ℕ) → (ℕ → ℕ) → ℕ �
 written xs place value zero = xs
 written xs place value (suc n) = set (written xs place value n) (place n) (value n)
 
--- the record of the processor with this number. A number that isn't 0 or 1 has none
+-- the record of the processor with this number. A number that isn't 0 or 1 has none, nor has one past the end of the list
 abbrev pub recordOf : List Processor → ℕ → Option Processor
 recordOf ps n = cond (ltb n 2) (getElem? ps n) none

@@ -32,7 +32,7 @@ pairOutcome answer storage keys ps buffer =
 abbrev pub putBack : List Processor → ℕ → Outcome → PairOutcome
 putBack ps n o = record { answer = o .answer; storage = o .storage; keys = o .keys; processors = set ps n (o .processor); buffer = o .buffer }
 
--- a number that isn't 0 or 1: line 64, then line 65. No record is looked at
+-- a number without a record: line 64, then line 65. No record is looked at
 abbrev pub withoutRecord : Settings → ℕ → ℕ → Verdict
 withoutRecord s storageLength keyLength = firstOf (configuration s storageLength keyLength) (Stop Record 0)
 

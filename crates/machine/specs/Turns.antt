@@ -85,23 +85,24 @@ given s m t = let o = turnOutcome s m t in record { answer = o .answer; buffer =
 abbrev pub Carries : ℕ → State → Turn → Type 0
 Carries i m t = (t .processorNumber ≡ i) ⊎ (2 ≤ t .processorNumber)
 
--- a request that finds the state m names unit u, by its record if it has one
+-- the same by its record, if it has one
 abbrev pub namedBy : Option Processor → Settings → ℕ → State → Turn → Bool
 namedBy none s u m t = false
 namedBy (some p) s u m t =
     names (beforeProtection s (length (m .storage)) (length (m .keys)) p (t .request) (length (t .buffer))) s p (t .request) u
 
--- by the prefix then in force
+-- a request that finds the state m names unit u, by the prefix then in force
 abbrev pub named : Settings → ℕ → State → Turn → Bool
 named s u m t = namedBy (recordOf (m .processors) (t .processorNumber)) s u m t
 
--- nothing but a fetch names as a fetch
+-- a request that names its units as a fetch: nothing but a fetch does
 abbrev pub isFetch : Request → Bool
 isFetch (Access Fetch address count) = true
 isFetch (Access Store address count) = false
 isFetch (Key i) = false
 isFetch (Prefix i) = false
 
+-- a request that finds the state m does not name unit u
 abbrev pub Unnamed : Settings → ℕ → State → Turn → Type 0
 Unnamed s u m t = named s u m t ≡ false
 

@@ -39,7 +39,7 @@ pub(crate) fn settings() -> Settings {
 // A processor in supervisor state with PSW key 0 and bit 3 off.
 pub(crate) fn processor(prefix: u32) -> Processor {
     Processor {
-        key: 0,
+        psw_key: 0,
         problem: false,
         low_protection: false,
         key_control: false,
@@ -80,8 +80,8 @@ pub(crate) fn key(instruction: KeyInstruction) -> Case {
 }
 
 impl Case {
-    pub(crate) fn psw_key(mut self, key: u8) -> Self {
-        self.processor.key = key;
+    pub(crate) fn psw_key(mut self, psw_key: u8) -> Self {
+        self.processor.psw_key = psw_key;
         self
     }
 

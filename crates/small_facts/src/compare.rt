@@ -21,7 +21,7 @@ pub(crate) fn difference(a: &[u8], b: &[u8]) -> usize {
 }
 
 fn same_record(p: Processor, q: Processor) -> bool {
-    (p.key == q.key)
+    (p.psw_key == q.psw_key)
         & (p.problem == q.problem)
         & (p.low_protection == q.low_protection)
         & (p.key_control == q.key_control)

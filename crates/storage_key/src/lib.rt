@@ -84,5 +84,5 @@ pub fn low_protected(kind: AccessKind, p: Processor, real: u32) -> bool
 pub fn forbidden(kind: AccessKind, p: Processor, real: u32, key: u8) -> bool
     ensures { λ r. ⌜ r ≡ isForbidden kind p real key ⌝ }
 {
-    low_protected(kind, p, real) | !permitted(kind, p.key, key)
+    low_protected(kind, p, real) | !permitted(kind, p.psw_key, key)
 }

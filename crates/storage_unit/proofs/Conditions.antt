@@ -13,8 +13,8 @@ use Rattle.machine.specs.declared.Answer.{Answer}
 use Rattle.machine.specs.Lists.{recordOf}
 use Rattle.machine.specs.Answers.{answerOf}
 use Rattle.machine.specs.Step.{outcome, step}
-use Rattle.machine.specs.Pair.{putBack, pairOutcome, withoutRecord, pairStep}
-use Rattle.machine.specs.Conditions.{Condition1}
+use Rattle.machine.specs.Pair.{putBack, withoutRecord}
+use Rattle.machine.specs.Conditions.{Condition1, Condition2}
 use Rattle.machine.proofs.Pairs.{lookup-getD, own-step, other-number-refused}
 use Rattle.machine.proofs.Conditions.{condition-1}
 
@@ -23,10 +23,10 @@ module _ (s : Settings) (storage keys : List ℕ) (ps : List Processor) (n : ℕ
   abbrev Both : Answer → List ℕ → List ℕ → List Processor → List ℕ → Type 0
   Both answer storage′ keys′ ps′ buffer′ =
       Condition1 answer storage keys ps buffer storage′ keys′ ps′ buffer′
-      × (pairOutcome answer storage′ keys′ ps′ buffer′ ≡ pairStep s storage keys ps n r buffer)
+      × Condition2 s storage keys ps n r buffer answer storage′ keys′ ps′ buffer′
 
   module _ (answer : Answer) (storage′ keys′ buffer′ : List ℕ) where
-    both : (ps′ : List Processor) → pairOutcome answer storage′ keys′ ps′ buffer′ ≡ pairStep s storage keys ps n r buffer
+    both : (ps′ : List Processor) → Condition2 s storage keys ps n r buffer answer storage′ keys′ ps′ buffer′
         → Both answer storage′ keys′ ps′ buffer′
     both ps′ e = (condition-1 s storage keys ps n r buffer answer storage′ keys′ ps′ buffer′ e, e)
 

@@ -13,8 +13,7 @@ use machine::answers::answer_of;
 use machine::numbers::without_record;
 ghost use mathlib.Core.Path.{_≡_};
 ghost use Rattle.machine.specs.Step.{outcome, step};
-ghost use Rattle.machine.specs.Pair.{pairOutcome, pairStep};
-ghost use Rattle.machine.specs.Conditions.{Condition1};
+ghost use Rattle.machine.specs.Conditions.{Condition1, Condition2};
 
 // One request for a processor with the record p, over lent storage, keys and buffer.
 pub fn serve(
@@ -62,8 +61,8 @@ pub fn request(
 ) -> Reply
     ensures condition_1 { λ r. ⌜ Condition1 (r .answer) (now (storage .entry)) (now (keys .entry)) processors (now (buffer .entry))
         (now (storage .exit)) (now (keys .exit)) (r .processors) (now (buffer .exit)) ⌝ }
-    ensures condition_2 { λ r. ⌜ pairOutcome (r .answer) (now (storage .exit)) (now (keys .exit)) (r .processors) (now (buffer .exit))
-        ≡ pairStep settings (now (storage .entry)) (now (keys .entry)) processors «processor_number» request (now (buffer .entry)) ⌝ }
+    ensures condition_2 { λ r. ⌜ Condition2 settings (now (storage .entry)) (now (keys .entry)) processors «processor_number» request (now (buffer .entry))
+        (r .answer) (now (storage .exit)) (now (keys .exit)) (r .processors) (now (buffer .exit)) ⌝ }
 {
     if processor_number < 2 {
         let p = processors[processor_number];

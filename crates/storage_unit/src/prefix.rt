@@ -63,7 +63,9 @@ fn complete(p: Processor, instruction: PrefixInstruction) -> Served
             }
         }
         PrefixInstruction::StorePrefix => Served {
-            answer: Answer::Completed { word: p.prefix },
+            answer: Answer::Completed {
+                word: prefix_of(p.prefix),
+            },
             processor: p,
         },
     }

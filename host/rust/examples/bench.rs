@@ -115,7 +115,7 @@ impl Machine {
     fn set_up(&mut self, case: &Case) {
         self.keys.fill(0x80);
         self.processors[0] = Processor {
-            key: case.psw_key,
+            psw_key: case.psw_key,
             prefix: 65_536,
             ..Processor::default()
         };

@@ -116,7 +116,7 @@ pub const fn encode_processor(processor: &Processor) -> [u8; RECORD_LENGTH] {
     let controls = (processor.problem as u8 * PROBLEM)
         | (processor.low_protection as u8 * LOW_PROTECTION)
         | (processor.key_control as u8 * KEY_CONTROL);
-    let record = at(PSW_KEY_AT, processor.key)
+    let record = at(PSW_KEY_AT, processor.psw_key)
         | at(CONTROLS_AT, controls)
         | at(CODE_AT, processor.code)
         | (processor.prefix as u64) << (8 * PREFIX_AT);
@@ -130,7 +130,7 @@ pub const fn decode_processor(bytes: &[u8; RECORD_LENGTH]) -> Processor {
     let record = u64::from_le_bytes(*bytes);
     let reserved = at(CONTROLS_AT, RESERVED_CONTROLS) | at(RESERVED_AT, 0xFF);
     Processor {
-        key: if record & reserved == 0 {
+        psw_key: if record & reserved == 0 {
             (record >> (8 * PSW_KEY_AT)) as u8
         } else {
             255

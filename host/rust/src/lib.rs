@@ -115,7 +115,7 @@ impl Settings {
 #[derive(Clone, Copy, Debug, Default, PartialEq, Eq, Hash)]
 pub struct Processor {
     /// The PSW key, 0 to 15.
-    pub key: u8,
+    pub psw_key: u8,
     /// The processor is in the problem state; otherwise in the supervisor state.
     pub problem: bool,
     /// Bit 3 of control register 0: low-address protection is on.

@@ -82,7 +82,7 @@ fn request_with_record(
     let Some(own) = own else {
         return Answer::refused(Number::Record, 0);
     };
-    if own.key > 15
+    if own.psw_key > 15
         || own.code > 3
         || !(own.prefix as usize).is_multiple_of(PAGE)
         || own.prefix as usize >= length
@@ -127,7 +127,7 @@ impl Span {
     #[inline]
     fn permitted(&self, keys: &[u8], own: &Processor, kind: AccessKind) -> bool {
         let key = keys[self.unit];
-        let keys_match = own.key == 0 || own.key == key >> 4;
+        let keys_match = own.psw_key == 0 || own.psw_key == key >> 4;
         match kind {
             AccessKind::Fetch => keys_match || key & FETCH_PROTECTION == 0,
             AccessKind::Store => keys_match && !(own.low_protection && self.real < LOW_END),

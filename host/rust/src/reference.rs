@@ -141,7 +141,7 @@ impl Situation<'_> {
     fn forbidden(&self, kind: AccessKind, real: u32) -> bool {
         let own = self.own();
         let key = self.key_of(absolute_address(real, own.prefix));
-        let keys_match = own.key == 0 || own.key == access_control(key);
+        let keys_match = own.psw_key == 0 || own.psw_key == access_control(key);
         match kind {
             AccessKind::Store => {
                 let low_address = own.low_protection && real <= 511;
@@ -194,7 +194,7 @@ fn line_65(situation: &Situation) -> Option<u16> {
     let own = situation.own();
     let prefix_good =
         own.prefix.is_multiple_of(4096) && (own.prefix as usize) < situation.storage_length;
-    place_0_if(own.key > 15 || own.code > 3 || !prefix_good)
+    place_0_if(own.psw_key > 15 || own.code > 3 || !prefix_good)
 }
 
 /// Access count, access or RRB address, or the buffer is bad.

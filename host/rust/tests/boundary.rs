@@ -33,7 +33,7 @@ fn settings_have_two_bits() {
 fn records_have_eight_bytes_each() {
     let processors = [
         Processor {
-            key: 0x0A,
+            psw_key: 0x0A,
             problem: true,
             low_protection: false,
             key_control: false,
@@ -41,7 +41,7 @@ fn records_have_eight_bytes_each() {
             code: 3,
         },
         Processor {
-            key: 0xFF,
+            psw_key: 0xFF,
             problem: false,
             low_protection: true,
             key_control: true,
@@ -58,7 +58,7 @@ fn records_have_eight_bytes_each() {
     for (place, bit) in reserved_bits() {
         let mut bytes = bytes;
         bytes[place] |= bit;
-        assert_eq!(decode_processors(&bytes)[0].key, 255);
+        assert_eq!(decode_processors(&bytes)[0].psw_key, 255);
         assert_eq!(decode_processors(&bytes)[1], processors[1]);
     }
 }
@@ -74,7 +74,7 @@ fn every_record_comes_back() {
     for flags in 0..8 {
         for field in [0, 1, 15, 16, 0xFF] {
             let record = Processor {
-                key: field,
+                psw_key: field,
                 problem: flags & 1 != 0,
                 low_protection: flags & 2 != 0,
                 key_control: flags & 4 != 0,

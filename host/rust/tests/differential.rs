@@ -236,7 +236,7 @@ fn events_of(
             let unit = settings.key_unit() as u32;
             let key = keys_before[(absolute(address, own.prefix) / unit) as usize];
             let last_key = keys_before[(absolute(last, own.prefix) / unit) as usize];
-            let keys_match = own.key == 0 || own.key == key >> 4;
+            let keys_match = own.psw_key == 0 || own.psw_key == key >> 4;
             let rule = |real: u32| match real / 4096 {
                 0 => 1,
                 page if page == own.prefix / 4096 => 2,
@@ -274,13 +274,13 @@ fn events_of(
                     Event::RefusedPastEndByLowAddress,
                     past_end
                         && low_store
-                        && own.key == 0
+                        && own.psw_key == 0
                         && u32::from(answer.place) == ADDRESSES_24 - address,
                 );
                 met.set(Event::RefusedInSecondUnit, answer.place > 0);
                 met.set(
                     Event::LowAddressAgainstKeyZero,
-                    low_store && own.key == 0 && address < 512,
+                    low_store && own.psw_key == 0 && address < 512,
                 );
                 met.set(Event::FetchRefused, fetch);
                 met.set(Event::RefusedKeptBit7, (key | last_key) & 1 != 0);

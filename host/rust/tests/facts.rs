@@ -49,7 +49,7 @@ fn p3<U: Unit>() {
 fn with_keys(key: u8, psw_key: u8) -> Lent {
     let mut lent = usual();
     lent.keys[0] = key;
-    lent.processors[0].key = psw_key;
+    lent.processors[0].psw_key = psw_key;
     lent
 }
 

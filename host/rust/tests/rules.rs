@@ -88,14 +88,14 @@ fn faulty_states(settings: Settings) -> [Lent; 5] {
     let mut right = usual();
     right.settings = settings;
     right.keys = vec![0x70; settings.key_count(65_536)];
-    right.processors[0].key = 3;
+    right.processors[0].psw_key = 3;
     right.processors[0].key_control = true;
     let mut without_control = right.clone();
     without_control.processors[0].key_control = false;
     let mut in_problem_state = without_control.clone();
     in_problem_state.processors[0].problem = true;
     let mut bad_record = in_problem_state.clone();
-    bad_record.processors[0].key = 16;
+    bad_record.processors[0].psw_key = 16;
     let mut bad_lengths = bad_record.clone();
     bad_lengths.keys.push(0);
     [
@@ -114,7 +114,7 @@ fn order_of_lines_for_accesses<U: Unit>() {
     };
     let [bad_lengths, bad_record, in_problem_state, _, right] = faulty_states(settings);
     let mut unlocked = right.clone();
-    unlocked.processors[0].key = 7;
+    unlocked.processors[0].psw_key = 7;
     for kind in [Request::fetch, Request::store] {
         let mut locked = in_problem_state.clone();
         locked.keys.fill(0x78);
@@ -333,8 +333,8 @@ fn processor_numbers_and_records<U: Unit>() {
                 let mut lent = usual();
                 let record = &mut lent.processors[own];
                 match fault {
-                    0 => record.key = 16,
-                    1 => record.key = 255,
+                    0 => record.psw_key = 16,
+                    1 => record.psw_key = 255,
                     2 => record.code = 4,
                     3 => record.code = 255,
                     4 => record.prefix = 65_536,
@@ -357,7 +357,7 @@ fn processor_numbers_and_records<U: Unit>() {
 /// The limits of the fields are allowed.
 fn largest_fields<U: Unit>() {
     let mut lent = usual();
-    lent.processors[1].key = 15;
+    lent.processors[1].psw_key = 15;
     lent.processors[1].code = 3;
     lent.processors[1].prefix = 61_440;
     lent.keys = vec![0xF0; 32];
@@ -371,7 +371,7 @@ fn largest_fields<U: Unit>() {
 fn outside_before_forbidden<U: Unit>() {
     let mut before = usual();
     before.keys[31] = 0x88;
-    before.processors[0].key = 3;
+    before.processors[0].psw_key = 3;
     for request in [Request::fetch(65_535, 2), Request::store(65_535, 2)] {
         refused::<U>(&before, request, &[7; 2], Number::Addressing, 1);
     }
@@ -448,7 +448,7 @@ fn past_the_highest_address<U: Unit>() {
     );
 
     // The key of the unit after the highest address forbids.
-    before.processors[0].key = 3;
+    before.processors[0].psw_key = 3;
     before.keys[1] = 0x30;
     before.keys[8190] = 0x48;
     for request in [
@@ -492,7 +492,7 @@ fn access_under_two_rules<U: Unit>() {
 /// Keys are tested by the absolute address.
 fn protection_by_absolute_address<U: Unit>() {
     let mut before = with_prefix(8192);
-    before.processors[0].key = 3;
+    before.processors[0].psw_key = 3;
     before.keys[0] = 0x48;
     before.keys[4] = 0x30;
     let mut after = before.clone();
@@ -511,7 +511,7 @@ fn protection_by_absolute_address<U: Unit>() {
 /// An access that ends with its unit touches that unit only.
 fn access_to_the_end_of_a_unit<U: Unit>() {
     for (mut before, unit) in [(usual(), 2048), (with_4k_units(), 4096)] {
-        before.processors[0].key = 3;
+        before.processors[0].psw_key = 3;
         before.keys[0] = 0x30;
         before.keys[1] = 0x48;
         let mut after = before.clone();
@@ -535,7 +535,7 @@ fn access_within_a_4k_unit<U: Unit>() {
     let mut before = with_4k_units();
     before.keys[0] = 0x91;
     before.keys[1] = 0xA1;
-    before.processors[0].key = 9;
+    before.processors[0].psw_key = 9;
     let mut after = before.clone();
     after.keys[0] = 0x96;
     after.storage[2047..2049].copy_from_slice(&new_bytes(2));
@@ -549,7 +549,7 @@ fn keys_that_match<U: Unit>() {
             for low_bits in 0..16_u8 {
                 let mut before = usual();
                 before.keys[0] = access_control << 4 | low_bits;
-                before.processors[0].key = psw_key;
+                before.processors[0].psw_key = psw_key;
                 let matches = psw_key == 0 || psw_key == access_control;
                 let fetch = answer::<U>(&before, 0, Request::fetch(0, 1), 1);
                 let store = answer::<U>(&before, 0, Request::store(0, 1), 1);
@@ -584,7 +584,7 @@ fn bit_7_and_accesses<U: Unit>() {
     after.keys[1] = 0x36;
     after.storage[2040..2056].copy_from_slice(&new_bytes(16));
     completes::<U>(&before, Request::store(2040, 16), &new_bytes(16), 0, &after);
-    before.processors[0].key = 3;
+    before.processors[0].psw_key = 3;
     before.keys[1] = 0x49;
     refused::<U>(
         &before,
@@ -868,7 +868,7 @@ fn key_control<U: Unit>() {
 /// reference or change.
 fn key_instructions_are_not_protected<U: Unit>() {
     let mut before = usual();
-    before.processors[0].key = 3;
+    before.processors[0].psw_key = 3;
     before.processors[0].low_protection = true;
     before.keys[0] = 0x88;
     before.keys[1] = 0x88;
@@ -885,7 +885,7 @@ fn key_instructions_are_not_protected<U: Unit>() {
 /// the prefix of the other processor do not matter.
 fn set_prefix_rules<U: Unit>() {
     let mut before = with_prefix(8192);
-    before.processors[0].key = 3;
+    before.processors[0].psw_key = 3;
     before.processors[0].low_protection = true;
     before.processors[0].code = 2;
     before.processors[1].prefix = 12_288;

@@ -40,7 +40,7 @@ returns c =
     let copied = lent .before .before in
     let known = copied .before .before in
     let start = known .before .before .before in
-    both-of-served _ _ _ _ _ _ _ _ _ _ _ _ _ _ (copied .before .if1 .taken) (omega (arith, start .good)) refl (served .serve .ensures)
+    both-of-served _ _ _ _ _ _ _ _ _ _ _ _ _ _ (omega (arith, copied .before .if1 .taken)) (omega (arith, start .good)) refl (served .serve .ensures)
 
 without-record-requires : tie.Need-without-record-requires
 without-record-requires c κs = search needs
@@ -51,7 +51,7 @@ answer-of-requires c κs = search needs
 returns-2 : tie.Need-returns-2
 returns-2 c =
     let refused = c .before in
-    both-without-record _ _ _ _ _ _ _ _ (rw (refused .without-record .ensures) at (c .answer-of .ensures)) (refused .before .if1 .left)
+    both-without-record _ _ _ _ _ _ _ _ (rw (refused .without-record .ensures) at (c .answer-of .ensures)) (omega (arith, refused .before .if1 .left))
 
 pub request-spec : {M : Type 1} → statement M
 request-spec =

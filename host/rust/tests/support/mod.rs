@@ -157,7 +157,7 @@ pub fn random_prefix(random: &mut Random, storage_length: usize) -> u32 {
 /// A record that is valid for a storage of this length.
 pub fn random_processor(random: &mut Random, storage_length: usize) -> Processor {
     Processor {
-        key: random_access_key(random),
+        psw_key: random_access_key(random),
         problem: random.one_in(8),
         low_protection: random.one_in(2),
         key_control: !random.one_in(4),
@@ -169,7 +169,7 @@ pub fn random_processor(random: &mut Random, storage_length: usize) -> Processor
 /// Puts a value that no processor has into one field of a record.
 pub fn damage(random: &mut Random, processor: &mut Processor, storage_length: usize) {
     match random.below(3) {
-        0 => processor.key = random.pick(&[16, 17, 128, 255]),
+        0 => processor.psw_key = random.pick(&[16, 17, 128, 255]),
         1 => processor.code = random.pick(&[4, 5, 128, 255]),
         _ => {
             let length = storage_length as u32;
@@ -187,7 +187,7 @@ pub fn damage(random: &mut Random, processor: &mut Processor, storage_length: us
 
 /// Whether line 65 lets this record pass.
 pub fn is_valid(processor: &Processor, storage_length: usize) -> bool {
-    processor.key <= 15
+    processor.psw_key <= 15
         && processor.code <= 3
         && processor.prefix.is_multiple_of(4096)
         && (processor.prefix as usize) < storage_length

@@ -85,13 +85,13 @@ given s m t = let o = turnOutcome s m t in record { answer = o .answer; buffer =
 abbrev pub Carries : ℕ → State → Turn → Type 0
 Carries i m t = (t .processorNumber ≡ i) ⊎ (2 ≤ t .processorNumber)
 
--- the same by its record, if it has one
+-- a request that finds the state m names unit u, its record being this one, if it has one
 abbrev pub namedBy : Option Processor → Settings → ℕ → State → Turn → Bool
 namedBy none s u m t = false
 namedBy (some p) s u m t =
     names (beforeProtection s (length (m .storage)) (length (m .keys)) p (t .request) (length (t .buffer))) s p (t .request) u
 
--- a request that finds the state m names unit u, by the prefix then in force
+-- the record is that of the number that it carries, so the prefix is the one then in force
 abbrev pub named : Settings → ℕ → State → Turn → Bool
 named s u m t = namedBy (recordOf (m .processors) (t .processorNumber)) s u m t
 

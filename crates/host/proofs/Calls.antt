@@ -34,8 +34,8 @@ module _ (bytes : List ℕ) (s : Settings) (storage keys : List ℕ) (at : ℕ) 
     (answer : Answer) {storage′ keys′ : List ℕ} {q : Processor} {buffer′ : List ℕ} {result : ℕ} {bytes′ : List ℕ}
     (read : p ≡ recordAt bytes at) (stepped : outcome answer storage′ keys′ q buffer′ ≡ step s storage keys p r buffer)
     (byte : (i : ℕ) → getD bytes i 0 < 256) (put : bytes′ ≡ recordPut bytes at p q) (given : Packs result answer) where
-  abbrev Met : Type 0
-  Met =
+  abbrev CallMet : Type 0
+  CallMet =
       CallCondition1 result storage keys bytes buffer storage′ keys′ bytes′ buffer′
       × (callOutcome result storage′ keys′ bytes′ buffer′ ≡ callServed bytes at (step s storage keys (recordAt bytes at) r buffer))
 
@@ -62,7 +62,7 @@ module _ (bytes : List ℕ) (s : Settings) (storage keys : List ℕ) (at : ℕ) 
           subst (λ o. o .processor ≡ withPrefix (withCode p (o .processor .code)) (o .processor .prefix)) (sym stepped)
           (controls-stay s storage keys p r buffer)
 
-  completed-call : numberOf answer ≡ 0 → Met
+  completed-call : numberOf answer ≡ 0 → CallMet
   unfolding recordsLeft
   completed-call zero = (
     record { answered = rw (given .1) (answer-in-table answer); unchanged = λ h. absurd (h (given .1 ∙ zero)) },
@@ -73,7 +73,7 @@ module _ (bytes : List ℕ) (s : Settings) (storage keys : List ℕ) (at : ℕ) 
           ≡ callServed bytes at (outcome answer storage′ keys′ q buffer′)
       completed-bytes = rw (eq-eqb _ _ zero)
 
-  refused-call : numberOf answer ≢ 0 → Met
+  refused-call : numberOf answer ≢ 0 → CallMet
   unfolding recordsLeft
   refused-call d =
       let u = stepped ∙ refused-changes-nothing s storage keys p r buffer (λ e. d (number-same ∙ e)) in
@@ -86,9 +86,9 @@ module _ (bytes : List ℕ) (s : Settings) (storage keys : List ℕ) (at : ℕ) 
       kept-bytes = rw (ne-eqb _ _ d)
 
   -- both conditions of the call
-  pub served-call : Met
+  pub served-call : CallMet
   served-call = go (ℕ-discrete (numberOf answer) 0)
     where
-      go : Dec (numberOf answer ≡ 0) → Met
+      go : Dec (numberOf answer ≡ 0) → CallMet
       go (yes zero) = completed-call zero
       go (no d) = refused-call d

@@ -9,14 +9,12 @@ use machine::Settings;
 use machine::Verdict;
 use machine::answers::first_of;
 use machine::answers::refuse;
+use machine::numbers::OPERAND_LIMIT;
 use machine::numbers::valid;
 use storage_key::forbidden;
 ghost use mathlib.Core.Path.{_≡_};
 ghost use Rattle.machine.specs.Table.{operandInvalid};
 ghost use Rattle.access.specs.ByUnit.{spanOutside, spanAbsoluteOutside, twoTests, firstLines, linesOfOne, linesOfTwo};
-
-// The first address that line 66 refuses.
-const OPERAND_LIMIT: u32 = 16777216;
 
 // Line 66.
 fn operand_invalid(kind: AccessKind, address: u32, count: u32, buffer_length: usize) -> bool

@@ -1,6 +1,7 @@
 // Completing one span of an access: moving its bytes, and recording the access in the key of its unit.
 use crate::span::Span;
 use machine::AccessKind;
+use machine::numbers::ADDRESS_SPACE;
 use prefixing::add24;
 use storage_key::recorded;
 ghost use Prim.Native.Nat.{_+_, _-_, _<_};
@@ -8,9 +9,6 @@ ghost use mathlib.Core.Path.{_≡_};
 ghost use lib.ListN.{length};
 ghost use Rattle.machine.specs.Numbers.{addressSpace, add24 as sum24};
 ghost use Rattle.access.specs.Moving.{Fits, moved, storageMoved, bufferMoved, keyRecorded};
-
-// The number of real addresses that an access can have: they have 24 bits.
-const ADDRESS_SPACE: u32 = 16777216;
 
 // How far byte j of a run that does not wrap is from the run's first byte: its real address is made by the 24-bit addition. The two tests never
 // hold. They stand beside the addition so that the compiler sees that the answer is j in every case, and no addition is left.

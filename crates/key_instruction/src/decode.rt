@@ -1,13 +1,11 @@
 // A key instruction decoded, once for the table of answers and for the operation.
 use machine::KeyInstruction;
 use machine::KeyOperation;
+use machine::numbers::OPERAND_LIMIT;
 ghost use mathlib.Core.Path.{_≡_};
 ghost use mathlib.Core.Bool.{true, false};
 ghost use Rattle.machine.specs.KeyInstructions.{block2K, block4K};
 ghost use Rattle.key_instruction.specs.Decoded.{decodedOf};
-
-// The first address that line 66 refuses as the address of RRB.
-const OPERAND_LIMIT: u32 = 16777216;
 
 // What an instruction designates and does, and what the table asks of its operands.
 pub(crate) struct Decoded {

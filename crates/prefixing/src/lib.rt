@@ -1,11 +1,9 @@
 // Addresses: the 24-bit addition that makes each byte's real address, and real to absolute.
+use machine::numbers::ADDRESS_SPACE;
 ghost use mathlib.Core.Path.{_≡_};
 ghost use Rattle.machine.specs.Bits.{bits};
 ghost use Rattle.machine.specs.Numbers.{add24 as sum24};
 ghost use Rattle.machine.specs.Prefixing.{absolute as absoluteOf, prefixOf};
-
-// The number of real addresses that an access can have: they have 24 bits.
-const ADDRESS_SPACE: u32 = 16777216;
 
 // The sum of two addresses in 24 bits, which wraps from 16,777,215 to 0 on purpose.
 pub fn add24(a: u32, b: u32) -> u32

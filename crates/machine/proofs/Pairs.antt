@@ -1,5 +1,5 @@
--- The step over the pair: a processor's own step, or a refusal that looks at no record. It leaves every other record as it was.
--- Assumes nothing.
+-- The step over the pair: a processor's own step, or a refusal that looks at no record. It leaves every other record as it was. The laws of
+-- lookup in a list, by its elements one after the other, come first. Assumes nothing.
 use Prim.Native.Nat.{ℕ, zero, suc, _≤_, _<_}
 use mathlib.Core.Path.{_≡_, refl, sym, ap, _∙_}
 use mathlib.Core.Bool.{Bool, true, false, cond}

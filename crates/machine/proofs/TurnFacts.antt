@@ -1,6 +1,6 @@
 -- Rows 19 and 20 of the table of small facts, on every storage of 65,536 bytes and whatever the bytes stored. Row 19 follows from the claim
--- about any order, and row 20 shows that the claim needs its hypothesis. The steps are computed. Beside them, fetches of any addresses, which
--- may share their units. Assumes nothing.
+-- about any order, and row 20 shows that the claim needs its hypothesis. The steps are computed. Beside them, lists of
+-- requests of all kinds, and fetches of any addresses, which may share their units. Assumes nothing.
 use mathlib.Core.Path.{_≡_, refl, sym, ap, subst, _∙_}
 use mathlib.Core.Bool.{true, false}
 use mathlib.Core.Logic.{_≢_, inl, inr}

@@ -55,7 +55,7 @@ fn absolute_outside(storage_length: usize, here: Span) -> bool
     ((here.real as usize) < storage_length) & (storage_length <= here.absolute as usize)
 }
 
-// Lines 5, 67 and 4 of an access in one unit. It returns early for speed (docs/BENCHMARK.md).
+// Lines 5, 67 and 4 of an access in one unit. The first two return early, for speed (docs/BENCHMARK.md).
 pub(crate) fn lines_of_one(
     storage_length: usize,
     p: Processor,
@@ -76,13 +76,8 @@ pub(crate) fn lines_of_one(
             place: 0,
         };
     }
-    if forbidden(kind, p, here.real, here.key) {
-        return Verdict::Stop {
-            reason: Reason::Protection,
-            place: 0,
-        };
-    }
-    Verdict::Clear
+    let protected = forbidden(kind, p, here.real, here.key);
+    refuse(Reason::Protection, protected)
 }
 
 // A line of an access in two units: place 0 where the first test holds, else place k where the second does.

@@ -25,6 +25,9 @@ returns-2 c =
 forbidden-requires : tie.Need-forbidden-requires
 forbidden-requires c κs = tt
 
+refuse-requires : tie.Need-refuse-requires
+refuse-requires c κs = tt
+
 returns-3 : tie.Need-returns-3
 unfolding line firstOf linesOfOne
 returns-3 c =
@@ -38,24 +41,8 @@ returns-3 c =
       ← absolute-tested .absolute-outside .ensures,
       absolute-inside .if2 .left,
       ← key-tested .forbidden .ensures,
-      c .if3 .taken,
     )
-
-returns-4 : tie.Need-returns-4
-unfolding line firstOf linesOfOne
-returns-4 c =
-    let key-tested = c .before in
-    let absolute-inside = key-tested .before in
-    let absolute-tested = absolute-inside .before in
-    let inside = absolute-tested .before in
-    rw (
-      ← inside .before .outside .ensures,
-      inside .if1 .left,
-      ← absolute-tested .absolute-outside .ensures,
-      absolute-inside .if2 .left,
-      ← key-tested .forbidden .ensures,
-      c .if3 .left,
-    )
+    (c .refuse .ensures)
 
 pub lines-of-one-spec : {M : Type 1} → statement M
 lines-of-one-spec =
@@ -66,5 +53,5 @@ lines-of-one-spec =
     absolute-outside-requires
     returns-2
     forbidden-requires
-    returns-3
-    returns-4)
+    refuse-requires
+    returns-3)

@@ -132,6 +132,11 @@ static void operations(void)
     completed(STORAGE_UNIT_RRBE, 0, 0x1000);
     CHECK(keys[2] == 0x32 && keys[3] == 0x32);
     CHECK(completed(STORAGE_UNIT_ISKE, 0, 0x1000) == 0x32);
+    keys[2] = 0x84;
+    keys[3] = 0x52;
+    storage_unit_put_code(records, 0);
+    completed(STORAGE_UNIT_RRBE, 0, 0x1000);
+    CHECK(keys[2] == 0x80 && keys[3] == 0x52 && storage_unit_code(records) == 3);
     completed(STORAGE_UNIT_SET_PREFIX, 0x1000, 0);
     CHECK(storage_unit_prefix(records) == 0x1000);
     CHECK(completed(STORAGE_UNIT_STORE_PREFIX, 0, 0) == 0x1000);

@@ -33,7 +33,9 @@ extern "C" {
  * The count of FETCH and STORE is the number of bytes, 1 to 256. Addresses are real and are
  * prefixed. R2 of ISK and SSK designates a 2K block by bits 8-20 (hex 00FFF800), and so does the
  * address of RRB; R2 of ISKE, SSKE and RRBE a 4K block by bits 1-19 (hex 7FFFF000), with 2K units
- * both of its keys. The key in R1 is its lowest byte.
+ * both of its keys. The key in R1 is its lowest byte. RRB and RRBE set the condition code to
+ * 2 x the old reference bit + the old change bit; of two keys, RRBE takes the OR of the reference
+ * bits and the OR of the change bits, as ISKE does.
  */
 
 #define STORAGE_UNIT_FETCH        0u /* address, count: from storage to the buffer */

@@ -70,7 +70,7 @@ module _ (s : Settings) (storage keys : List ℕ) (p : Processor) (i : KeyInstru
       → outcome (Completed (wordGiven keys (blockUnit s p d) (onTwo s d) (d .operation)))
       storage
       (keysLeft keys (blockUnit s p d) (onTwo s d) (d .operation))
-      (withCode p (codeLeft keys (blockUnit s p d) (d .operation) (p .code)))
+      (withCode p (codeLeft keys (blockUnit s p d) (onTwo s d) (d .operation) (p .code)))
       []
       ≡ step s storage keys p (Key i) []
   unfolding completed decodedOf

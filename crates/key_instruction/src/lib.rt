@@ -34,7 +34,7 @@ fn perform(keys: &mut [u8], p: Processor, u: usize, two: bool, operation: KeyOpe
     requires { ⌜ Inside (length (now keys)) u two ⌝ }
     ensures { λ r. ⌜ r .answer ≡ Answer.Completed (wordGiven (now (keys .entry)) u two operation) ⌝ }
     ensures { λ r. ⌜ now (keys .exit) ≡ keysLeft (now (keys .entry)) u two operation ⌝ }
-    ensures { λ r. ⌜ r .processor ≡ withCode p (codeLeft (now (keys .entry)) u operation (p .code)) ⌝ }
+    ensures { λ r. ⌜ r .processor ≡ withCode p (codeLeft (now (keys .entry)) u two operation (p .code)) ⌝ }
 {
     match operation {
         KeyOperation::Insert { r1 } => {

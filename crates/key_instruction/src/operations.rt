@@ -6,22 +6,29 @@ use storage_key::joined;
 use storage_key::key_in;
 use storage_key::key_of;
 ghost use mathlib.Core.Path.{_≡_};
-ghost use lib.ListN.{length, getD};
-ghost use Rattle.machine.specs.KeyInstructions.{wordGiven, keysLeft};
+ghost use lib.ListN.{length};
+ghost use Rattle.machine.specs.KeyInstructions.{keyRead, wordGiven, keysLeft};
 ghost use Rattle.machine.specs.Key.{codeOf};
 ghost use Rattle.key_instruction.specs.Units.{Inside};
+
+// The key that is read: the one key; of two, the low-order key with the reference and change bits of both.
+fn key_read(keys: &[u8], u: usize, two: bool) -> u8
+    requires { ⌜ Inside (length (now keys)) u two ⌝ }
+    ensures { λ r. ⌜ r ≡ keyRead (now (keys .entry)) u two ⌝ }
+{
+    if two {
+        joined(keys[u], keys[u + 1])
+    } else {
+        key_of(keys[u])
+    }
+}
 
 // The word of R1 with its bits 24-30 replaced by the key, and bit 31 zero.
 pub(crate) fn insert(keys: &[u8], u: usize, two: bool, r1: u32) -> u32
     requires { ⌜ Inside (length (now keys)) u two ⌝ }
     ensures { λ r. ⌜ r ≡ wordGiven (now (keys .entry)) u two (KeyOperation.Insert r1) ⌝ }
 {
-    let rest = r1 / 256 * 256;
-    if two {
-        rest + joined(keys[u], keys[u + 1]) as u32
-    } else {
-        rest + key_of(keys[u]) as u32
-    }
+    r1 / 256 * 256 + key_read(keys, u, two) as u32
 }
 
 // The key becomes bits 24-30 of R1.
@@ -36,14 +43,15 @@ pub(crate) fn set(keys: &mut [u8], u: usize, two: bool, r1: u32)
     }
 }
 
-// The reference bit becomes zero; the condition code is the low-order key's.
+// The reference bit becomes zero; the condition code is that of the key that is read before.
 pub(crate) fn reset(keys: &mut [u8], u: usize, two: bool) -> u8
     requires { ⌜ Inside (length (now keys)) u two ⌝ }
     ensures { λ r. ⌜ now (keys .exit) ≡ keysLeft (now (keys .entry)) u two KeyOperation.Reset ⌝ }
-    ensures { λ r. ⌜ r ≡ codeOf (getD (now (keys .entry)) u 0) ⌝ }
+    ensures { λ r. ⌜ r ≡ codeOf (keyRead (now (keys .entry)) u two) ⌝ }
 {
     let low = keys[u];
-    let code = code_of(low);
+    let key = key_read(keys, u, two);
+    let code = code_of(key);
     keys[u] = after_reset(low);
     if two {
         keys[u + 1] = after_reset(keys[u + 1]);

@@ -1,4 +1,4 @@
--- The six key instructions in document 01's sentences: when each completes, and what it leaves then. Words and key bytes are taken apart in
+-- The six key instructions in the documents' sentences: when each completes, and what it leaves then. Words and key bytes are taken apart in
 -- numbers, not by the bits of the rules. What is left is argued once for each of the operations insert, set and reset, over the first unit and
 -- one key or two; completion once for every instruction. The laws of the instructions follow in a line each.
 -- Assumes nothing.
@@ -22,7 +22,7 @@ use Rattle.machine.specs.declared.Answer.the-variants.{Completed}
 use Rattle.machine.specs.Lists.{written}
 use Rattle.machine.specs.Key.{accessControl, fetchProtection, reference, change, keyOf, afterReset, codeOf, joined}
 use Rattle.machine.specs.Prefixing.{absolute}
-use Rattle.machine.specs.KeyInstructions.{operation, twoKeys, keyCount, wordGiven, keysLeft, codeLeft, firstUnit}
+use Rattle.machine.specs.KeyInstructions.{operation, twoKeys, keyCount, keyRead, wordGiven, keysLeft, codeLeft, firstUnit}
 use Rattle.machine.specs.Step.{Outcome, outcome, withCode, completed, step}
 use Rattle.machine.proofs.Verdicts.{not-both}
 use Rattle.machine.proofs.Written.{length-written, written-there, written-elsewhere}
@@ -50,6 +50,10 @@ pub record HoldsKey (k f r c : ℕ) : Type 0 where
   pub reference-bit : r < 2
   pub change-bit : c < 2
   pub value : k / 2 ≡ f * 4 + r * 2 + c
+
+-- every byte does
+pub byte-holds-key : (k : ℕ) → k < 256 → HoldsKey k (k / 8) (k / 4 % 2) (k / 2 % 2)
+byte-holds-key k byte = omega arith
 
 -- What is left, with storage, keys, record and buffer as they were before.
 
@@ -79,15 +83,14 @@ pub record CodeOnly (p q : Processor) : Type 0 where
   pub key-control-stays : q .«key_control» ≡ p .«key_control»
   pub prefix-stays : q .prefix ≡ p .prefix
 
--- reset: in the n keys from unit u on the reference bit becomes zero, and bit 7; bits 0-4 and the change bit stay. The condition code is
--- 2 x old reference + old change of the key of unit u. Nothing else is changed
-pub record Resets (storage keys : List ℕ) (p : Processor) (buffer : List ℕ) (u n : ℕ) (o : Outcome) : Type 0 where
+-- reset: in the n keys from unit u on the reference bit becomes zero, and bit 7; bits 0-4 and the change bit stay. The condition code
+-- becomes k. Nothing else is changed
+pub record Resets (storage keys : List ℕ) (p : Processor) (buffer : List ℕ) (u n k : ℕ) (o : Outcome) : Type 0 where
   pub word-zero : o .answer .word ≡ 0
   pub keys-reset : (v : ℕ) → u ≤ v → v < u + n → (f r c : ℕ) → HoldsKey (getD keys v 0) f r c → getD (o .keys) v 0 ≡ f * 8 + c * 2
   pub other-keys-stay : (v : ℕ) → (v < u) ⊎ (u + n ≤ v) → getD (o .keys) v 0 ≡ getD keys v 0
   pub as-many-keys : length (o .keys) ≡ length keys
-  pub code-left : o .processor .code ≡ 2 * reference (getD keys u 0) + change (getD keys u 0)
-  pub code-by-bits : (f r c : ℕ) → HoldsKey (getD keys u 0) f r c → o .processor .code ≡ 2 * r + c
+  pub code-left : o .processor .code ≡ k
   pub rest-of-record-stays : CodeOnly p (o .processor)
   pub storage-stays : o .storage ≡ storage
   pub buffer-stays : o .buffer ≡ buffer
@@ -114,13 +117,16 @@ keys-joined low high f r c g q d l h =
     let (a2, b2, r2, c2) = bits-of high g q d h in
     rw (a1, b1, r1, c1, r2, c2) (omega arith)
 
-code-by : (k f r c : ℕ) → HoldsKey k f r c → codeOf k ≡ 2 * r + c
+code-by : (f r c : ℕ) → f < 32 → r < 2 → c < 2 → codeOf (f * 8 + r * 4 + c * 2) ≡ 2 * r + c
 unfolding codeOf
-code-by k f r c h = let (a, b, d, e) = bits-of k f r c h in rw (d, e)
+code-by f r c upper reference-bit change-bit = omega arith
 
-code-said : (k : ℕ) → codeOf k ≡ 2 * reference k + change k
-unfolding codeOf
-code-said k = refl
+code-of-one : (k f r c : ℕ) → HoldsKey k f r c → codeOf (keyOf k) ≡ 2 * r + c
+code-of-one k f r c h = rw (key-inserted k f r c h) (code-by f r c (h .upper) (h .reference-bit) (h .change-bit))
+
+code-of-two : (low high f r c g q d : ℕ) → HoldsKey low f r c → HoldsKey high g q d → codeOf (joined low high) ≡ 2 * max r q + max c d
+code-of-two low high f r c g q d l h =
+    rw (keys-joined low high f r c g q d l h) (code-by f (max r q) (max c d) (l .upper) (omega arith) (omega arith))
 
 -- a run of writes from place u on
 run-written : (xs : List ℕ) (u : ℕ) (value : ℕ → ℕ) (n : ℕ) → ((j : ℕ) → j < n → u + j < length xs)
@@ -143,7 +149,7 @@ module _ (s : Settings) (storage keys : List ℕ) (p : Processor) (buffer : List
 
   leaves : (op : KeyOperation) → operation i ≡ op
       → after
-      ≡ outcome (Completed (wordGiven keys u two op)) storage (keysLeft keys u two op) (withCode p (codeLeft keys u op (p .code))) buffer
+      ≡ outcome (Completed (wordGiven keys u two op)) storage (keysLeft keys u two op) (withCode p (codeLeft keys u two op (p .code))) buffer
   unfolding completed
   leaves op performs = completed-step s storage keys p (Key i) buffer done ∙ rw (first, counted, performs)
 
@@ -193,9 +199,9 @@ module _ (s : Settings) (storage keys : List ℕ) (p : Processor) (buffer : List
         buffer-stays = refl;
       })
 
-  resets : operation i ≡ Reset → Resets storage keys p buffer u (keyCount two) after
+  resets : (code : ℕ) → operation i ≡ Reset → codeOf (keyRead keys u two) ≡ code → Resets storage keys p buffer u (keyCount two) code after
   unfolding wordGiven keysLeft codeLeft
-  resets performs =
+  resets code performs by-key =
       rw (leaves _ performs)
       (record {
         word-zero = refl;
@@ -204,8 +210,7 @@ module _ (s : Settings) (storage keys : List ℕ) (p : Processor) (buffer : List
             run-written keys u (λ j. afterReset (getD keys (u + j) 0)) (keyCount two) inside v a b ∙ rw at (key-reset _ f r c h);
         other-keys-stay = run-elsewhere keys u _ (keyCount two);
         as-many-keys = length-written keys _ _ (keyCount two);
-        code-left = code-said _;
-        code-by-bits = code-by _;
+        code-left = by-key;
         rest-of-record-stays =
             record { key-stays = refl; problem-stays = refl; low-protection-stays = refl; key-control-stays = refl; prefix-stays = refl };
         storage-stays = refl;
@@ -318,9 +323,11 @@ module _ (s : Settings) (storage keys : List ℕ) (p : Processor) (buffer : List
         → let i = Ssk (h * 256 + k * 2 + z) (word2K a b c) in Completes i → Sets storage keys p buffer unit2K 1 (k * 2) (left i)
     ssk-sets h k z small bit done = sets s storage keys p buffer _ (ap (keyUnit s p) (omega arith)) refl done h k z small bit refl
 
-    -- RRB puts the reference bit of the key to zero
-    pub rrb-resets : let i = Rrb (word2K a b c) in Completes i → Resets storage keys p buffer unit2K 1 (left i)
-    rrb-resets done = resets s storage keys p buffer _ (ap (keyUnit s p) (omega arith)) refl done refl
+    -- RRB puts the reference bit of the key to zero; the condition code is 2 x old reference + old change
+    pub rrb-resets : (f r d : ℕ) → HoldsKey (getD keys unit2K 0) f r d
+        → let i = Rrb (word2K a b c) in Completes i → Resets storage keys p buffer unit2K 1 (2 * r + d) (left i)
+    rrb-resets f r d holds done =
+        resets s storage keys p buffer _ (ap (keyUnit s p) (omega arith)) refl done (2 * r + d) refl (code-of-one _ f r d holds)
 
   module _ (a b c : ℕ) (block : b < 524288) (ignored : c < 4096) where
     -- the first key unit
@@ -366,9 +373,15 @@ module _ (s : Settings) (storage keys : List ℕ) (p : Processor) (buffer : List
         → let i = Sske (h * 256 + k * 2 + z) (word4K a b c) in Completes i → Sets storage keys p buffer unit4K 2 (k * 2) (left i)
     sske-sets-two absent h k z small bit done = sets s storage keys p buffer _ (ap (keyUnit s p) (omega arith)) (ap not absent) done h k z small bit refl
 
-    -- RRBE puts the reference bit of the one key of the block to zero; and without the 4K facility of both
-    pub rrbe-resets-one : s .«four_k» ≡ true → let i = Rrbe (word4K a b c) in Completes i → Resets storage keys p buffer unit4K 1 (left i)
-    rrbe-resets-one present done = resets s storage keys p buffer _ (ap (keyUnit s p) (omega arith)) (ap not present) done refl
+    -- RRBE puts the reference bit of the one key of the block to zero, with the condition code as RRB
+    pub rrbe-resets-one : s .«four_k» ≡ true → (f r d : ℕ) → HoldsKey (getD keys unit4K 0) f r d
+        → let i = Rrbe (word4K a b c) in Completes i → Resets storage keys p buffer unit4K 1 (2 * r + d) (left i)
+    rrbe-resets-one present f r d holds done =
+        resets s storage keys p buffer _ (ap (keyUnit s p) (omega arith)) (ap not present) done (2 * r + d) refl (code-of-one _ f r d holds)
 
-    pub rrbe-resets-two : s .«four_k» ≡ false → let i = Rrbe (word4K a b c) in Completes i → Resets storage keys p buffer unit4K 2 (left i)
-    rrbe-resets-two absent done = resets s storage keys p buffer _ (ap (keyUnit s p) (omega arith)) (ap not absent) done refl
+    -- and without the 4K facility of both; the condition code is 2 x (OR of old reference bits) + (OR of old change bits)
+    pub rrbe-resets-two : s .«four_k» ≡ false → (f r d g q e : ℕ) → HoldsKey (getD keys unit4K 0) f r d → HoldsKey (getD keys (unit4K + 1) 0) g q e
+        → let i = Rrbe (word4K a b c) in Completes i → Resets storage keys p buffer unit4K 2 (2 * max r q + max d e) (left i)
+    rrbe-resets-two absent f r d g q e low high done =
+        resets s storage keys p buffer _ (ap (keyUnit s p) (omega arith)) (ap not absent) done (2 * max r q + max d e) refl
+        (code-of-two _ _ f r d g q e low high)

@@ -15,7 +15,7 @@ pub mod AnswerPlace
 pub mod Accesses
 pub mod KeyInstructions
 pub mod Named
--- The rules held to the sentences of document 01: the table, key and prefix instructions, and rows computed
+-- The rules held to the sentences of the documents: the table, key and prefix instructions, and rows computed
 pub mod TableLines
 pub mod Sentences
 pub mod Refusals

@@ -1,4 +1,4 @@
--- Document 01 as definitions, in its order. Contracts cite them; the types are in src/lib.rt.
+-- Document 01, as the change requests of document 02 amend it, as definitions, in its order. Contracts cite them; the types are in src/lib.rt.
 -- Bits as the manual numbers them, runs of writes, the pair's lookup
 pub mod Bits
 pub mod Lists
@@ -22,5 +22,5 @@ pub mod Units
 pub mod Turns
 -- The three conditions
 pub mod Conditions
--- Table of small facts
+-- Table of small facts, and the examples of document 02
 pub mod SmallFacts

@@ -1,4 +1,4 @@
-// The table of small facts, run through the storage unit: a line for each fact, with what came out of the unit.
+// The table of small facts and the examples of document 02, run through the storage unit: a line for each, with what came out of the unit.
 mod answers;
 mod case;
 mod compare;
@@ -73,6 +73,12 @@ fn set_key() {
     show(b"; number %n\n", key(odd));
 }
 
+// Document 02.
+fn examples() {
+    let rrbe = KeyInstruction::Rrbe { r2: 0 };
+    show(b"W2 code %c keys %k and %s\n", key(rrbe).keys(0x84, 0x52));
+}
+
 fn main() {
     prefixing();
     one_unit();
@@ -83,4 +89,5 @@ fn main() {
     set_key();
     orders::disjoint();
     orders::shared();
+    examples();
 }

@@ -2,7 +2,7 @@
 use machine::AccessKind;
 use machine::Processor;
 ghost use mathlib.Core.Path.{_≡_};
-ghost use Prim.Native.Nat.{max};
+ghost use Prim.Native.Nat.{_<_, max};
 ghost use Rattle.machine.specs.Key.{keyOf, keyInWord, afterReset, codeOf, joined as joinedOf};
 ghost use Rattle.machine.specs.Protection.{permitted as isPermitted, lowProtected, forbidden as isForbidden, recorded as recordedBy};
 
@@ -37,20 +37,22 @@ pub fn after_reset(key: u8) -> u8
     key / 8 * 8 + key / 2 % 2 * 2
 }
 
-// The condition code of a reset: 2 x reference + change.
+// The condition code that a reset takes from a key: 2 x reference + change.
 pub fn code_of(key: u8) -> u8
     ensures { λ r. ⌜ r ≡ codeOf key ⌝ }
 {
     key / 2 % 4
 }
 
+// The OR of two bits. So written, the compiler makes one instruction of it.
 fn either(a: u8, b: u8) -> u8
+    requires { ⌜ (a < 2) × (b < 2) ⌝ }
     ensures { λ r. ⌜ r ≡ max a b ⌝ }
 {
-    if a < b { b } else { a }
+    if (a == 1) | (b == 1) { 1 } else { 0 }
 }
 
-// The low-order key with reference and change bits ORed with those of the high-order key.
+// Two keys as one: the low-order key, its reference and change bits each ORed with the high-order one's.
 pub fn joined(low: u8, high: u8) -> u8
     ensures { λ r. ⌜ r ≡ joinedOf low high ⌝ }
 {

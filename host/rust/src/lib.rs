@@ -5,16 +5,16 @@
 //! for one processor and gives one [`Answer`]. The requests are fetch and store,
 //! the six storage-key instructions, SET PREFIX and STORE PREFIX.
 //!
-//! The rules come from document 01 of the project, which rests on the IBM
-//! System/370 Principles of Operation, GA22-7000. Bits are numbered as in that
-//! manual: bit 0 is the leftmost.
+//! The rules come from document 01 of the project, as the change requests of
+//! document 02 amend it. They rest on the IBM System/370 Principles of Operation,
+//! GA22-7000. Bits are numbered as in that manual: bit 0 is the leftmost.
 //!
 //! # Implementations
 //!
 //! | Item | What it is |
 //! |---|---|
 //! | [`proved`] | the proved unit, called in the static library through its C function |
-//! | [`reference`](mod@reference) | document 01 written down byte by byte, for comparison |
+//! | [`reference`](mod@reference) | documents 01 and 02 written down byte by byte, for comparison |
 //! | [`plain`] | ordinary hand-written Rust, for comparison of speed |
 //!
 //! All three have a function `request` with the same parameters, and all three implement
@@ -154,7 +154,8 @@ pub enum KeyInstruction {
         /// The content of general register R2; bits 8-20 designate a 2K block.
         r2: u32,
     },
-    /// RESET REFERENCE BIT.
+    /// RESET REFERENCE BIT. The condition code becomes 2 x the old reference bit + the
+    /// old change bit.
     Rrb {
         /// The real address; bits 21-31 are ignored.
         address: u32,
@@ -173,7 +174,8 @@ pub enum KeyInstruction {
         /// The content of general register R2; bits 1-19 designate a 4K block.
         r2: u32,
     },
-    /// RESET REFERENCE BIT EXTENDED.
+    /// RESET REFERENCE BIT EXTENDED. The condition code as for RRB; of two keys, with 2K
+    /// units, it takes the OR of the two reference bits and the OR of the two change bits.
     Rrbe {
         /// The content of general register R2; bits 1-19 designate a 4K block.
         r2: u32,

@@ -244,9 +244,9 @@ fn key_instruction(
     let first = (prefixed(real, own.prefix) >> unit_shift(settings)) as usize;
     let count = if extended && !settings.four_k { 2 } else { 1 };
     let keys = &mut keys[first..first + count];
+    let recorded = keys.iter().fold(0, |bits, key| bits | key) & (REFERENCE | CHANGE);
     match instruction {
         KeyInstruction::Isk { r1, .. } | KeyInstruction::Iske { r1, .. } => {
-            let recorded = keys.iter().fold(0, |bits, key| bits | key) & (REFERENCE | CHANGE);
             let key = keys[0] & !UNUSED | recorded;
             Answer::completed(r1 & !0xFF | u32::from(key))
         }
@@ -255,7 +255,7 @@ fn key_instruction(
             Answer::completed(0)
         }
         KeyInstruction::Rrb { .. } | KeyInstruction::Rrbe { .. } => {
-            own.code = (keys[0] & (REFERENCE | CHANGE)) >> 1;
+            own.code = recorded >> 1;
             for key in keys {
                 *key &= !(REFERENCE | UNUSED);
             }

@@ -1,9 +1,9 @@
-//! Document 01 written down byte by byte.
+//! Documents 01 and 02 written down byte by byte.
 //!
 //! This implementation is for comparison. It follows the table of numbers line by
 //! line and treats each byte of an access by itself: its real address, its
 //! absolute address, the key of its unit. It is written to be read beside
-//! document 01 and the manual, not to be fast.
+//! the documents and the manual, not to be fast.
 
 use crate::{
     AccessKind, Answer, KeyInstruction, Number, PrefixInstruction, Processor, Request,
@@ -392,12 +392,7 @@ fn complete_key_instruction(
     match *instruction {
         KeyInstruction::Isk { r1, .. } | KeyInstruction::Iske { r1, .. } => {
             let low_key = keys[low];
-            let mut reference = key_bit(low_key, REFERENCE);
-            let mut change = key_bit(low_key, CHANGE);
-            if let Some(high) = high {
-                reference |= key_bit(keys[high], REFERENCE);
-                change |= key_bit(keys[high], CHANGE);
-            }
+            let (reference, change) = reference_and_change(keys, low, high);
             let inserted = written_key(
                 access_control(low_key),
                 key_bit(low_key, FETCH_PROTECTION),
@@ -417,7 +412,8 @@ fn complete_key_instruction(
             Answer::completed(0)
         }
         KeyInstruction::Rrb { .. } | KeyInstruction::Rrbe { .. } => {
-            own.code = 2 * key_bit(keys[low], REFERENCE) + key_bit(keys[low], CHANGE);
+            let (reference, change) = reference_and_change(keys, low, high);
+            own.code = 2 * reference + change;
             keys[low] = without_reference(keys[low]);
             if let Some(high) = high {
                 keys[high] = without_reference(keys[high]);
@@ -425,6 +421,17 @@ fn complete_key_instruction(
             Answer::completed(0)
         }
     }
+}
+
+/// The OR of the reference bits of one key or two, and the OR of their change bits.
+fn reference_and_change(keys: &[u8], low: usize, high: Option<usize>) -> (u8, u8) {
+    let mut reference = key_bit(keys[low], REFERENCE);
+    let mut change = key_bit(keys[low], CHANGE);
+    if let Some(high) = high {
+        reference |= key_bit(keys[high], REFERENCE);
+        change |= key_bit(keys[high], CHANGE);
+    }
+    (reference, change)
 }
 
 /// The key with its reference bit zero.

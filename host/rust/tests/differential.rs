@@ -88,12 +88,13 @@ enum Event {
     ExtendedWithBit0,
     ExtendedOutsideByBits1To7,
     InsertJoinedTwoKeys,
-    ResetOnTwoKeys,
+    ResetOfTwoKeys,
+    ResetOfChangedHighKey,
     SetPrefixWithIgnoredBits,
     OtherRecordDamaged,
 }
 
-const EVENTS: [(Event, &str); 28] = [
+const EVENTS: [(Event, &str); 29] = [
     (Event::CompletedPastEnd, "access completed past 16,777,215"),
     (
         Event::RefusedPastEndByLowAddress,
@@ -168,8 +169,12 @@ const EVENTS: [(Event, &str); 28] = [
     ),
     (Event::InsertJoinedTwoKeys, "ISKE joined bits of two keys"),
     (
-        Event::ResetOnTwoKeys,
-        "RRBE on two keys with different codes",
+        Event::ResetOfTwoKeys,
+        "RRBE on two keys, its code that of neither alone",
+    ),
+    (
+        Event::ResetOfChangedHighKey,
+        "RRBE on two keys, the change bit in the high-order one alone",
     ),
     (
         Event::SetPrefixWithIgnoredBits,
@@ -317,9 +322,14 @@ fn events_of(
                         Event::InsertJoinedTwoKeys,
                         matches!(instruction, KeyInstruction::Iske { .. }) && (low | high) != low,
                     );
+                    let reset = matches!(instruction, KeyInstruction::Rrbe { .. });
                     met.set(
-                        Event::ResetOnTwoKeys,
-                        matches!(instruction, KeyInstruction::Rrbe { .. }) && low != high,
+                        Event::ResetOfTwoKeys,
+                        reset && (low | high) != low && (low | high) != high,
+                    );
+                    met.set(
+                        Event::ResetOfChangedHighKey,
+                        reset && low & 1 == 0 && high & 1 == 1,
                     );
                 }
             }

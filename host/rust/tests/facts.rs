@@ -1,4 +1,5 @@
-//! The table of small facts of document 01, for each implementation.
+//! The table of small facts of document 01 and the examples of document 02, for each
+//! implementation.
 //!
 //! Unless a fact says otherwise: storage 65,536, 2K units, extensions present,
 //! prefix 0, PSW key 0, zero keys, supervisor state, low-address protection off.
@@ -311,7 +312,19 @@ fn fact_20<U: Unit>() {
     }
 }
 
+/// W2: RRBE, keys 84 and 52: code 3, keys 80 and 52.
+fn w2<U: Unit>() {
+    let mut before = with_keys(0x84, 0);
+    before.keys[1] = 0x52;
+    let mut after = before.clone();
+    after.keys[0] = 0x80;
+    after.processors[0].code = 3;
+    let request = Request::Key(KeyInstruction::Rrbe { r2: 0 });
+    completes::<U>(&before, request, &[], 0, &after);
+}
+
 for_each_unit! {
     p1 p2 p3 p4 p5 p6 p7 p8 p9 p10 p11 p12
     fact_13 fact_14 fact_15 fact_16 fact_17 fact_18 fact_19 fact_20
+    w2
 }

@@ -742,6 +742,7 @@ fn ignored_bits<U: Unit>() {
     completes::<U>(&before, sske(0x31, 0x8000_1FFF), &[], 0, &after);
     let mut after = before.clone();
     after.keys[3] = 0x8A;
+    after.processors[0].code = 3;
     completes::<U>(&before, rrbe(0x8000_1FFF), &[], 0, &after);
 }
 
@@ -793,7 +794,7 @@ fn insert<U: Unit>() {
     }
 }
 
-/// RRB and RRBE: all values of the reference and change bits.
+/// RRB and RRBE on two keys: all values of the reference and change bits.
 fn reset_reference<U: Unit>() {
     for low in 0..4_u8 {
         for high in 0..4_u8 {
@@ -806,6 +807,7 @@ fn reset_reference<U: Unit>() {
             after.processors[0].code = low;
             completes::<U>(&before, rrb(0x3000), &[], 0, &after);
             after.keys[7] = 0xA0 | (high & 1) << 1;
+            after.processors[0].code = low | high;
             completes::<U>(&before, rrbe(0x3000), &[], 0, &after);
             let mut after = before.clone();
             after.keys[7] = 0xA0 | (high & 1) << 1;

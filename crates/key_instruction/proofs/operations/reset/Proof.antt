@@ -1,5 +1,6 @@
 -- `reset` leaves the rules' keys and gives the rules' condition code: by whether it is one key or two. Assumes nothing.
-use Rattle.machine.specs.Key.{afterReset}
+use mathlib.Core.Path.{ap, _∙_}
+use Rattle.machine.specs.Key.{afterReset, codeOf}
 use lib.ListN.{length-set}
 use Rattle.machine.specs.KeyInstructions.{keysLeft}
 use Rattle.key_instruction.proofs.Keys.{one-key, two-keys}
@@ -9,6 +10,9 @@ use Rattle.key_instruction.proofs.operations.reset.Tie as tie
 
 slice-read-low : tie.Need-slice-read-low
 slice-read-low c = search needs
+
+key-read-requires : tie.Need-key-read-requires
+key-read-requires c κs = search needs
 
 code-of-requires : tie.Need-code-of-requires
 code-of-requires c κs = search needs
@@ -27,7 +31,8 @@ slice-read-after-reset c =
     let two = c .before in
     let low = two .before in
     let read = low .before .before in
-    simp length-set (read .before .before .pre .1 (two .if1 .taken))
+    let first = read .before .before in
+    simp length-set (first .before .before .pre .1 (two .if1 .taken))
 
 after-reset-requires-2 : tie.Need-after-reset-requires-2
 after-reset-requires-2 c κs = search needs
@@ -40,7 +45,8 @@ slice-write-keys-2 c =
     let two = c .before .before in
     let low = two .before in
     let read = low .before .before in
-    simp length-set (read .before .before .pre .1 (two .if1 .taken))
+    let first = read .before .before in
+    simp length-set (first .before .before .pre .1 (two .if1 .taken))
 
 same-length : tie.Need-same-length
 same-length c = search needs
@@ -50,7 +56,10 @@ unfolding keysLeft
 returns c =
     let two = c .before .before in
     let low = two .before in
-    (rw (two .if1 .taken, c .after-reset2 .ensures, low .after-reset .ensures) (two-keys afterReset _ _), low .before .code-of .ensures)
+    let coded = low .before in (
+      rw (two .if1 .taken, c .after-reset2 .ensures, low .after-reset .ensures) (two-keys afterReset _ _),
+      coded .code-of .ensures ∙ ap codeOf (coded .before .key-read .ensures),
+    )
 
 same-length-2 : tie.Need-same-length-2
 same-length-2 c = search needs
@@ -59,13 +68,17 @@ returns-2 : tie.Need-returns-2
 unfolding keysLeft
 returns-2 c =
     let low = c .before in
-    (rw (c .if1 .left, low .after-reset .ensures) (one-key afterReset _ _), low .before .code-of .ensures)
+    let coded = low .before in (
+      rw (c .if1 .left, low .after-reset .ensures) (one-key afterReset _ _),
+      coded .code-of .ensures ∙ ap codeOf (coded .before .key-read .ensures),
+    )
 
 pub reset-spec : {M : Type 1} → statement M
 reset-spec =
     tie.close
     (tie.spec
     slice-read-low
+    key-read-requires
     code-of-requires
     after-reset-requires
     slice-write-keys

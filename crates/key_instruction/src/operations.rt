@@ -4,23 +4,19 @@ use storage_key::after_reset;
 use storage_key::code_of;
 use storage_key::joined;
 use storage_key::key_in;
-use storage_key::key_of;
 ghost use mathlib.Core.Path.{_≡_};
 ghost use lib.ListN.{length};
 ghost use Rattle.machine.specs.KeyInstructions.{keyRead, wordGiven, keysLeft};
 ghost use Rattle.machine.specs.Key.{codeOf};
 ghost use Rattle.key_instruction.specs.Units.{Inside};
 
-// The key that is read: the one key; of two, the low-order key with the reference and change bits of both.
+// The key that is read: the one key, or the two as one. One key joined with itself is that key.
 fn key_read(keys: &[u8], u: usize, two: bool) -> u8
     requires { ⌜ Inside (length (now keys)) u two ⌝ }
     ensures { λ r. ⌜ r ≡ keyRead (now (keys .entry)) u two ⌝ }
 {
-    if two {
-        joined(keys[u], keys[u + 1])
-    } else {
-        key_of(keys[u])
-    }
+    let last = if two { u + 1 } else { u };
+    joined(keys[u], keys[last])
 }
 
 // The word of R1 with its bits 24-30 replaced by the key, and bit 31 zero.
@@ -43,7 +39,7 @@ pub(crate) fn set(keys: &mut [u8], u: usize, two: bool, r1: u32)
     }
 }
 
-// The reference bit becomes zero; the condition code is that of the key that is read before.
+// The reference bit becomes zero; gives the condition code of the key that is read before.
 pub(crate) fn reset(keys: &mut [u8], u: usize, two: bool) -> u8
     requires { ⌜ Inside (length (now keys)) u two ⌝ }
     ensures { λ r. ⌜ now (keys .exit) ≡ keysLeft (now (keys .entry)) u two KeyOperation.Reset ⌝ }

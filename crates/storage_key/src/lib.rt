@@ -3,15 +3,8 @@ use machine::AccessKind;
 use machine::Processor;
 ghost use mathlib.Core.Path.{_≡_};
 ghost use Prim.Native.Nat.{_<_, max};
-ghost use Rattle.machine.specs.Key.{keyOf, keyInWord, afterReset, codeOf, joined as joinedOf};
+ghost use Rattle.machine.specs.Key.{keyInWord, afterReset, codeOf, joined as joinedOf};
 ghost use Rattle.machine.specs.Protection.{permitted as isPermitted, lowProtected, forbidden as isForbidden, recorded as recordedBy};
-
-// The key in a key byte: bit 7 ignored.
-pub fn key_of(key: u8) -> u8
-    ensures { λ r. ⌜ r ≡ keyOf key ⌝ }
-{
-    key / 2 * 2
-}
 
 // The key in bits 24-30 of a register word.
 pub fn key_in(word: u32) -> u8

@@ -113,7 +113,7 @@ static void record_fields(void)
     CHECK(storage_unit_prefix(record) == 0x12CDB000);
 }
 
-/* One completed request of each operation, with what it leaves. */
+/* Completed requests of each operation, with what they leave. */
 static void operations(void)
 {
     start();

@@ -39,7 +39,7 @@ pub(crate) fn set(keys: &mut [u8], u: usize, two: bool, r1: u32)
     }
 }
 
-// The reference bit becomes zero; gives the condition code of the key that is read before.
+// The reference bit becomes zero. The condition code is that of the key as it was.
 pub(crate) fn reset(keys: &mut [u8], u: usize, two: bool) -> u8
     requires { ⌜ Inside (length (now keys)) u two ⌝ }
     ensures { λ r. ⌜ now (keys .exit) ≡ keysLeft (now (keys .entry)) u two KeyOperation.Reset ⌝ }

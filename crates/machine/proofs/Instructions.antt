@@ -1,6 +1,7 @@
 -- The six key instructions in the documents' sentences: when each completes, and what it leaves then. Words and key bytes are taken apart in
--- numbers, not by the bits of the rules. What is left is argued once for each of the operations insert, set and reset, over the first unit and
--- one key or two; completion once for every instruction. The laws of the instructions follow in a line each.
+-- numbers, not by the bits of the rules; `bits-of` says that the bits of a key are these numbers. What is left is argued once for each of the
+-- operations insert, set and reset, over the first unit and one key or two; completion once for every instruction. The laws of the
+-- instructions follow in a line each.
 -- Assumes nothing.
 use Prim.Native.Nat.{ℕ, _+_, _-_, _*_, _/_, _%_, _<_, _≤_, max}
 use mathlib.Core.Path.{_≡_, refl, ap, subst, _∙_}
@@ -26,6 +27,7 @@ use Rattle.machine.specs.KeyInstructions.{operation, twoKeys, keyCount, 
 use Rattle.machine.specs.Step.{Outcome, outcome, withCode, completed, step}
 use Rattle.machine.proofs.Verdicts.{not-both}
 use Rattle.machine.proofs.Written.{length-written, written-there, written-elsewhere}
+use Rattle.machine.proofs.KeyBytes.{key-of, key-joined}
 use Rattle.machine.proofs.KeyInstructions.{key-instruction-passed}
 use Rattle.machine.proofs.Requests.{completed-step, completed-cleared}
 use Rattle.machine.proofs.TableLines.{NoneOf}
@@ -97,8 +99,8 @@ pub record Resets (storage keys : List ℕ) (p : Processor) (buffer : List ℕ) 
 
 -- The operations on one key or two, over plain variables.
 
--- the bits of a key
-bits-of : (k f r c : ℕ) → HoldsKey k f r c → (accessControl k ≡ f / 2) × (fetchProtection k ≡ f % 2) × (reference k ≡ r) × (change k ≡ c)
+-- the bits of a key, as the rules have them, are these numbers
+pub bits-of : (k f r c : ℕ) → HoldsKey k f r c → (accessControl k ≡ f / 2) × (fetchProtection k ≡ f % 2) × (reference k ≡ r) × (change k ≡ c)
 bits-of k f r c h = (omega arith, omega arith, omega arith, omega arith)
 
 -- what insert, reset and the condition code make of a key
@@ -117,16 +119,13 @@ keys-joined low high f r c g q d l h =
     let (a2, b2, r2, c2) = bits-of high g q d h in
     rw (a1, b1, r1, c1, r2, c2) (omega arith)
 
-code-by : (f r c : ℕ) → f < 32 → r < 2 → c < 2 → codeOf (f * 8 + r * 4 + c * 2) ≡ 2 * r + c
+code-of-one : (k : ℕ) → codeOf (keyOf k) ≡ 2 * reference k + change k
 unfolding codeOf
-code-by f r c upper reference-bit change-bit = omega arith
+code-of-one k = rw (key-of k .reference-bit, key-of k .change-bit)
 
-code-of-one : (k f r c : ℕ) → HoldsKey k f r c → codeOf (keyOf k) ≡ 2 * r + c
-code-of-one k f r c h = rw (key-inserted k f r c h) (code-by f r c (h .upper) (h .reference-bit) (h .change-bit))
-
-code-of-two : (low high f r c g q d : ℕ) → HoldsKey low f r c → HoldsKey high g q d → codeOf (joined low high) ≡ 2 * max r q + max c d
-code-of-two low high f r c g q d l h =
-    rw (keys-joined low high f r c g q d l h) (code-by f (max r q) (max c d) (l .upper) (omega arith) (omega arith))
+code-of-two : (low high : ℕ) → codeOf (joined low high) ≡ 2 * max (reference low) (reference high) + max (change low) (change high)
+unfolding codeOf
+code-of-two low high = rw (key-joined low high .reference-bit, key-joined low high .change-bit)
 
 -- a run of writes from place u on
 run-written : (xs : List ℕ) (u : ℕ) (value : ℕ → ℕ) (n : ℕ) → ((j : ℕ) → j < n → u + j < length xs)
@@ -324,10 +323,10 @@ module _ (s : Settings) (storage keys : List ℕ) (p : Processor) (buffer : List
     ssk-sets h k z small bit done = sets s storage keys p buffer _ (ap (keyUnit s p) (omega arith)) refl done h k z small bit refl
 
     -- RRB puts the reference bit of the key to zero; the condition code is 2 x old reference + old change
-    pub rrb-resets : (f r d : ℕ) → HoldsKey (getD keys unit2K 0) f r d
-        → let i = Rrb (word2K a b c) in Completes i → Resets storage keys p buffer unit2K 1 (2 * r + d) (left i)
-    rrb-resets f r d holds done =
-        resets s storage keys p buffer _ (ap (keyUnit s p) (omega arith)) refl done (2 * r + d) refl (code-of-one _ f r d holds)
+    pub rrb-resets : let i = Rrb (word2K a b c) in
+        let key = getD keys unit2K 0 in
+        Completes i → Resets storage keys p buffer unit2K 1 (2 * reference key + change key) (left i)
+    rrb-resets done = resets s storage keys p buffer _ (ap (keyUnit s p) (omega arith)) refl done _ refl (code-of-one _)
 
   module _ (a b c : ℕ) (block : b < 524288) (ignored : c < 4096) where
     -- the first key unit
@@ -374,14 +373,17 @@ module _ (s : Settings) (storage keys : List ℕ) (p : Processor) (buffer : List
     sske-sets-two absent h k z small bit done = sets s storage keys p buffer _ (ap (keyUnit s p) (omega arith)) (ap not absent) done h k z small bit refl
 
     -- RRBE puts the reference bit of the one key of the block to zero, with the condition code as RRB
-    pub rrbe-resets-one : s .«four_k» ≡ true → (f r d : ℕ) → HoldsKey (getD keys unit4K 0) f r d
-        → let i = Rrbe (word4K a b c) in Completes i → Resets storage keys p buffer unit4K 1 (2 * r + d) (left i)
-    rrbe-resets-one present f r d holds done =
-        resets s storage keys p buffer _ (ap (keyUnit s p) (omega arith)) (ap not present) done (2 * r + d) refl (code-of-one _ f r d holds)
+    pub rrbe-resets-one : s .«four_k» ≡ true
+        → let i = Rrbe (word4K a b c) in
+        let key = getD keys unit4K 0 in
+        Completes i → Resets storage keys p buffer unit4K 1 (2 * reference key + change key) (left i)
+    rrbe-resets-one present done = resets s storage keys p buffer _ (ap (keyUnit s p) (omega arith)) (ap not present) done _ refl (code-of-one _)
 
     -- and without the 4K facility of both; the condition code is 2 x (OR of old reference bits) + (OR of old change bits)
-    pub rrbe-resets-two : s .«four_k» ≡ false → (f r d g q e : ℕ) → HoldsKey (getD keys unit4K 0) f r d → HoldsKey (getD keys (unit4K + 1) 0) g q e
-        → let i = Rrbe (word4K a b c) in Completes i → Resets storage keys p buffer unit4K 2 (2 * max r q + max d e) (left i)
-    rrbe-resets-two absent f r d g q e low high done =
-        resets s storage keys p buffer _ (ap (keyUnit s p) (omega arith)) (ap not absent) done (2 * max r q + max d e) refl
-        (code-of-two _ _ f r d g q e low high)
+    pub rrbe-resets-two : s .«four_k» ≡ false
+        → let i = Rrbe (word4K a b c) in
+        let low = getD keys unit4K 0 in
+        let high = getD keys (unit4K + 1) 0 in
+        Completes i
+        → Resets storage keys p buffer unit4K 2 (2 * max (reference low) (reference high) + max (change low) (change high)) (left i)
+    rrbe-resets-two absent done = resets s storage keys p buffer _ (ap (keyUnit s p) (omega arith)) (ap not absent) done _ refl (code-of-two _ _)

@@ -74,9 +74,10 @@ basic2K = machine false false 8192 K
 abbrev basic4K : Machine
 basic4K = machine true false 16384 K
 
--- four blocks in 2K units: the high-order key alone is changed; it alone is referenced; the low-order key alone is; neither is either
+-- four blocks in 2K units: the high-order key alone is changed; it alone is referenced; both are referenced and the low-order one is changed;
+-- neither is referenced or changed
 abbrev inHalves : Machine
-inHalves = machine false true 16384 (0x80 ∷ 0x52 ∷ 0x89 ∷ 0x35 ∷ 0x8D ∷ 0x30 ∷ 0xF8 ∷ 0x49 ∷ [])
+inHalves = machine false true 16384 (0x80 ∷ 0x52 ∷ 0x89 ∷ 0x35 ∷ 0x87 ∷ 0x54 ∷ 0xF8 ∷ 0x49 ∷ [])
 
 -- the greatest storage, in 4K units, with keys of zeros
 abbrev zeros : List ℕ
@@ -116,10 +117,10 @@ rows =
     ∷ done in2K (off 0 1) (Key (Rrbe 0)) 0 0 (0x80 ∷ 0x52 ∷ 0x89 ∷ 0x37 ∷ []) 0 3
     ∷ done in2K (off 0 1) (Key (Rrbe 0x80001FFF)) 0 0 (0x84 ∷ 0x52 ∷ 0x88 ∷ 0x32 ∷ []) 0 3
     ∷ done in2K (on 4096 1) (Key (Rrbe 0x1000)) 0 0 (0x80 ∷ 0x52 ∷ 0x89 ∷ 0x37 ∷ []) 4096 3
-    ∷ done inHalves (off 0 0) (Key (Rrbe 0)) 0 0 (0x80 ∷ 0x52 ∷ 0x89 ∷ 0x35 ∷ 0x8D ∷ 0x30 ∷ 0xF8 ∷ 0x49 ∷ []) 0 1
-    ∷ done inHalves (off 0 0) (Key (Rrbe 0x1000)) 0 0 (0x80 ∷ 0x52 ∷ 0x88 ∷ 0x30 ∷ 0x8D ∷ 0x30 ∷ 0xF8 ∷ 0x49 ∷ []) 0 2
-    ∷ done inHalves (off 0 0) (Key (Rrbe 0x2000)) 0 0 (0x80 ∷ 0x52 ∷ 0x89 ∷ 0x35 ∷ 0x88 ∷ 0x30 ∷ 0xF8 ∷ 0x49 ∷ []) 0 2
-    ∷ done inHalves (off 0 1) (Key (Rrbe 0x3000)) 0 0 (0x80 ∷ 0x52 ∷ 0x89 ∷ 0x35 ∷ 0x8D ∷ 0x30 ∷ 0xF8 ∷ 0x48 ∷ []) 0 0
+    ∷ done inHalves (off 0 0) (Key (Rrbe 0)) 0 0 (0x80 ∷ 0x52 ∷ 0x89 ∷ 0x35 ∷ 0x87 ∷ 0x54 ∷ 0xF8 ∷ 0x49 ∷ []) 0 1
+    ∷ done inHalves (off 0 0) (Key (Rrbe 0x1000)) 0 0 (0x80 ∷ 0x52 ∷ 0x88 ∷ 0x30 ∷ 0x87 ∷ 0x54 ∷ 0xF8 ∷ 0x49 ∷ []) 0 2
+    ∷ done inHalves (off 0 0) (Key (Rrbe 0x2000)) 0 0 (0x80 ∷ 0x52 ∷ 0x89 ∷ 0x35 ∷ 0x82 ∷ 0x50 ∷ 0xF8 ∷ 0x49 ∷ []) 0 3
+    ∷ done inHalves (off 0 1) (Key (Rrbe 0x3000)) 0 0 (0x80 ∷ 0x52 ∷ 0x89 ∷ 0x35 ∷ 0x87 ∷ 0x54 ∷ 0xF8 ∷ 0x48 ∷ []) 0 0
     -- ISK, SSK, RRB, 4K units: the one key of the enclosing block
     ∷ done in4K (on 0 1) (Key (Isk 0x12345678 0x800)) 0 0x12345684 K 0 1
     ∷ done in4K (on 0 1) (Key (Isk 0x12345678 0x1000)) 0 0x12345652 K 0 1

@@ -82,7 +82,9 @@ fn cases() -> Vec<Case> {
         Case::new("SSKE", |unit| {
             Request::Key(KeyInstruction::Sske { r1: 0x80, r2: unit })
         }),
-        Case::new("RRBE", |unit| Request::Key(KeyInstruction::Rrbe { r2: unit })),
+        Case::new("RRBE", |unit| {
+            Request::Key(KeyInstruction::Rrbe { r2: unit })
+        }),
         Case::new("SET PREFIX", |unit| {
             Request::Prefix(PrefixInstruction::SetPrefix { word: unit * 2 })
         }),

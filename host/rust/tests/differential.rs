@@ -90,11 +90,12 @@ enum Event {
     InsertJoinedTwoKeys,
     ResetOfTwoKeys,
     ResetOfChangedHighKey,
+    ResetOfOneKey,
     SetPrefixWithIgnoredBits,
     OtherRecordDamaged,
 }
 
-const EVENTS: [(Event, &str); 29] = [
+const EVENTS: [(Event, &str); 30] = [
     (Event::CompletedPastEnd, "access completed past 16,777,215"),
     (
         Event::RefusedPastEndByLowAddress,
@@ -175,6 +176,10 @@ const EVENTS: [(Event, &str); 29] = [
     (
         Event::ResetOfChangedHighKey,
         "RRBE on two keys, the change bit in the high-order one alone",
+    ),
+    (
+        Event::ResetOfOneKey,
+        "RRBE on one key, its code not that of it and the next key together",
     ),
     (
         Event::SetPrefixWithIgnoredBits,
@@ -314,24 +319,26 @@ fn events_of(
             | KeyInstruction::Sske { r2, .. }
             | KeyInstruction::Rrbe { r2 } => {
                 met.set(Event::ExtendedWithBit0, r2 >> 31 == 1);
-                if two_keys {
-                    let block = absolute(r2 & 0x7FFF_F000, own.prefix) as usize;
-                    let low = (keys_before[block / 2048] >> 1) & 3;
-                    let high = (keys_before[block / 2048 + 1] >> 1) & 3;
-                    met.set(
-                        Event::InsertJoinedTwoKeys,
-                        matches!(instruction, KeyInstruction::Iske { .. }) && (low | high) != low,
-                    );
-                    let reset = matches!(instruction, KeyInstruction::Rrbe { .. });
-                    met.set(
-                        Event::ResetOfTwoKeys,
-                        reset && (low | high) != low && (low | high) != high,
-                    );
-                    met.set(
-                        Event::ResetOfChangedHighKey,
-                        reset && low & 1 == 0 && high & 1 == 1,
-                    );
-                }
+                let block = absolute(r2 & 0x7FFF_F000, own.prefix) as usize;
+                let unit = block / settings.key_unit();
+                let low = (keys_before[unit] >> 1) & 3;
+                let next = (keys_before.get(unit + 1).copied().unwrap_or(0) >> 1) & 3;
+                let both = low | next;
+                let insert = matches!(instruction, KeyInstruction::Iske { .. });
+                let reset = matches!(instruction, KeyInstruction::Rrbe { .. });
+                met.set(
+                    Event::InsertJoinedTwoKeys,
+                    insert && two_keys && both != low,
+                );
+                met.set(
+                    Event::ResetOfTwoKeys,
+                    reset && two_keys && both != low && both != next,
+                );
+                met.set(
+                    Event::ResetOfChangedHighKey,
+                    reset && two_keys && low & 1 == 0 && next & 1 == 1,
+                );
+                met.set(Event::ResetOfOneKey, reset && !two_keys && both != low);
             }
         },
         Request::Key(

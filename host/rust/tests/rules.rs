@@ -1,5 +1,5 @@
-//! Written cases for the rules of document 01 that the table of small facts leaves
-//! out, for each implementation.
+//! Written cases for the rules that the table of small facts leaves out, for each
+//! implementation.
 
 mod support;
 
@@ -794,7 +794,7 @@ fn insert<U: Unit>() {
     }
 }
 
-/// RRB and RRBE on two keys: all values of the reference and change bits.
+/// RRB, and RRBE on two keys: all values of the reference and change bits.
 fn reset_reference<U: Unit>() {
     for low in 0..4_u8 {
         for high in 0..4_u8 {
@@ -821,10 +821,10 @@ fn reset_reference<U: Unit>() {
 fn key_instructions_with_4k_units<U: Unit>() {
     let mut before = with_4k_units();
     before.processors[0].key_control = true;
-    before.keys[1] = 0x87;
+    before.keys[1] = 0x83;
     before.keys[2] = 0x55;
     for request in [isk(0, 0x1000), isk(0, 0x1800), iske(0, 0x1800)] {
-        completes::<U>(&before, request, &[], 0x86, &before);
+        completes::<U>(&before, request, &[], 0x82, &before);
     }
     let mut after = before.clone();
     after.keys[1] = 0x32;
@@ -833,7 +833,7 @@ fn key_instructions_with_4k_units<U: Unit>() {
     }
     let mut after = before.clone();
     after.keys[1] = 0x82;
-    after.processors[0].code = 3;
+    after.processors[0].code = 1;
     for request in [rrb(0x1000), rrb(0x1FFF), rrbe(0x1FFF)] {
         completes::<U>(&before, request, &[], 0, &after);
     }

@@ -163,7 +163,7 @@ module _ (s : Settings) (storage keys : List ℕ) (p : Processor) (buffer : List
   inserts-one h l f r c word small performs one holds =
       rw (leaves _ performs)
       (record {
-        word-given = rw (one, key-inserted _ f r c holds) (omega arith);
+        word-given = rw one (omega (arith, key-inserted _ f r c holds));
         keys-stay = refl;
         record-stays = refl;
         storage-stays = refl;

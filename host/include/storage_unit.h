@@ -64,8 +64,6 @@ extern "C" {
  * special operation  ISK, SSK or RRB with the 4K facility and CR0 bit 7 zero
  * specification      ISK or SSK with any of bits 28-31 of R2 on
  * addressing         a real address, or the block that SET PREFIX would install, is outside storage
- * absolute address   a real address is inside storage and its absolute address outside; never
- *                    given, since a prefix outside storage is a wrong record
  * protection         a byte of an access is forbidden
  * completed          none of these
  */
@@ -78,7 +76,6 @@ extern "C" {
 #define STORAGE_UNIT_NUMBER_SPECIAL_OPERATION 19u
 #define STORAGE_UNIT_NUMBER_SPECIFICATION     6u
 #define STORAGE_UNIT_NUMBER_ADDRESSING        5u
-#define STORAGE_UNIT_NUMBER_ABSOLUTE_ADDRESS  67u
 #define STORAGE_UNIT_NUMBER_PROTECTION        4u
 #define STORAGE_UNIT_NUMBER_COMPLETED         0u
 
@@ -174,8 +171,8 @@ static inline uint32_t storage_unit_number(uint64_t answer)
 }
 
 /*
- * The place of an answer. For 5, 67 and 4 of an access it is the offset of the first such byte from
- * the start of the access, else 0.
+ * The place of an answer. For 5 and 4 of an access it is the offset of the first such byte from the
+ * start of the access, else 0.
  */
 static inline uint32_t storage_unit_place(uint64_t answer)
 {

@@ -1,33 +1,33 @@
 -- The table of an access by unit is the table by byte. A test that passes at the first byte of a span passes at all its bytes: so a scan goes on
 -- over a span by one test, and an access in one unit takes one test of each line, an access in two units two.
 -- Assumes nothing.
-use Prim.Native.Nat.{ℕ, zero, _+_, _-_, _%_, _<_, _≤_}
+use Prim.Native.Nat.{ℕ, _+_, _-_, _%_, _<_, _≤_}
 use mathlib.Core.Path.{_≡_, refl, sym, _∙_}
 use mathlib.Core.Bool.{Bool, true, false, _&&_}
 use mathlib.Core.List.{List}
 use native.Mathlib.Omega.{arith}
 use native.Mathlib.Nat.{zero-add}
-use borrow.Author.Tests.{ltb-false, leb-false, le-ltb, lt-leb, not-false}
+use borrow.Author.Tests.{ltb-false, leb-false, le-ltb, lt-leb}
 use lib.Dec.{leb, ltb}
 use lib.ListN.{length, getD}
 use Rattle.machine.specs.declared.Settings.{Settings}
 use Rattle.machine.specs.declared.Processor.{Processor}
 use Rattle.machine.specs.declared.Reason.{Reason}
-use Rattle.machine.specs.declared.Reason.the-variants.{Addressing, AbsoluteAddress, Protection}
+use Rattle.machine.specs.declared.Reason.the-variants.{Addressing, Protection}
 use Rattle.machine.specs.declared.Request.{Request}
 use Rattle.machine.specs.declared.Request.the-variants.{Access}
 use Rattle.machine.specs.declared.Verdict.{Verdict}
 use Rattle.machine.specs.declared.AccessKind.{AccessKind}
 use Rattle.machine.specs.declared.AccessKind.the-variants.{Fetch, Store}
 use Rattle.machine.specs.declared.Verdict.the-variants.{Clear}
-use Rattle.machine.specs.Numbers.{lengthsValid, recordValid, unitOf, add24}
+use Rattle.machine.specs.Numbers.{unitOf, add24}
 use Rattle.machine.specs.Answers.{stops, line, firstOf, firstByte, firstLine}
 use Rattle.machine.specs.Prefixing.{byteAddress}
 use Rattle.machine.specs.Protection.{lowProtected, forbidden}
-use Rattle.machine.specs.Table.{absoluteOutside, addressing, absoluteAddressing, protection, beforeProtection, verdict}
+use Rattle.machine.specs.Table.{configuration, ownRecord, addressing, protection, beforeProtection, verdict}
 use Rattle.machine.proofs.Verdicts.{neither, line-clear, first-clear, first-of-clear, first-none, first-assoc, skipped, first-of-stop, scan-on}
-use Rattle.machine.proofs.BeforeProtection.{configured, operands-passed}
-use Rattle.machine.proofs.AbsoluteAddress.{absolute-inside}
+use Rattle.machine.proofs.AbsoluteAddress.{configured}
+use Rattle.machine.proofs.BeforeProtection.{operands-passed}
 use Rattle.access.specs.declared.span.Span.{Span}
 use Rattle.access.specs.ByUnit.{toUnitEnd, spanAt, firstLines, linesOfOne, twoTests, linesOfTwo}
 use Rattle.access.proofs.Spans.{SameUnit, real-below, real-step, unit-same, to-unit-end-positive, first-span, second-span}
@@ -84,9 +84,8 @@ module _ (s : Settings) (storageLength : ℕ) (keys : List ℕ) (p : Processor) 
   abbrev firsts : Verdict
   firsts = firstLines s storageLength (length keys) p kind address count bufferLength
 
-  -- the table of an access is these and lines 5, 67 and 4
-  table-in-two : firstOf firsts (firstOf (addressing storageLength request)
-      (firstOf (absoluteAddressing storageLength p request) (protection s keys p request))) ≡ table
+  -- the table of an access is these and lines 5 and 4
+  table-in-two : firstOf firsts (firstOf (addressing storageLength request) (protection s keys p request)) ≡ table
   unfolding firstLine firstLines beforeProtection verdict
   table-in-two = simp (first-assoc, first-none, skipped)
 
@@ -96,42 +95,32 @@ module _ (s : Settings) (storageLength : ℕ) (keys : List ℕ) (p : Processor) 
 
   -- where none does, the other lines decide
   module _ (first : firsts ≡ Clear) where
-    lengths : lengthsValid s storageLength (length keys) ≡ true
+    machine-passed : (configuration s storageLength (length keys) ≡ Clear) × (ownRecord storageLength p ≡ Clear)
     unfolding firstLines
-    lengths = not-false _ (line-clear _ _ (first-clear _ _ (first-clear _ _ first .0) .0))
-
-    own : recordValid storageLength p ≡ true
-    unfolding firstLines
-    own = not-false _ (line-clear _ _ (first-clear _ _ (first-clear _ _ first .0) .1))
+    machine-passed = first-clear _ _ (first-clear _ _ first .0)
 
     operands : (0 < count) × (count ≤ 256) × (count ≤ bufferLength)
     unfolding firstLines
     operands = operands-passed kind address count bufferLength (line-clear _ _ (first-clear _ _ first .1))
 
-    -- the tests of byte i by lines 5, 67 and 4
+    -- the tests of byte i by lines 5 and 4
     abbrev test-5 : ℕ → Bool
     test-5 i = leb storageLength (add24 address i)
-
-    abbrev test-67 : ℕ → Bool
-    test-67 i = absoluteOutside storageLength p (add24 address i)
 
     abbrev test-4 : ℕ → Bool
     test-4 i = forbidden kind p (add24 address i) (getD keys (unitOf s (byteAddress p address i)) 0)
 
     steady-5 : Steady s address test-5
-    steady-5 = outside-steady s address storageLength (configured s storageLength (length keys) p lengths own .whole)
-
-    steady-67 : Steady s address test-67
-    steady-67 f j same passed = absolute-inside s storageLength (length keys) p lengths own (add24 address (f + j))
+    steady-5 = outside-steady s address storageLength (configured s storageLength (length keys) p (machine-passed .0) (machine-passed .1) .whole)
 
     steady-4 : Steady s address test-4
     steady-4 = forbidden-steady s address keys p kind
 
-    others : firstOf (firstByte Addressing test-5 count) (firstOf (firstByte AbsoluteAddress test-67 count) (firstByte Protection test-4 count)) ≡ table
-    unfolding addressing absoluteAddressing protection
+    others : firstOf (firstByte Addressing test-5 count) (firstByte Protection test-4 count) ≡ table
+    unfolding addressing protection
     others = sym (first-of-clear _ _ first) ∙ table-in-two
 
-    -- the verdict of lines 5, 67 and 4 on an access in one unit
+    -- the verdict of lines 5 and 4 on an access in one unit
     pub table-of-one : {here : Span} {v : Verdict} → count ≤ toUnitEnd s address → here ≡ spanAt s keys p address 0
         → v ≡ linesOfOne storageLength p kind here → v ≡ table
     unfolding linesOfOne
@@ -140,7 +129,6 @@ module _ (s : Settings) (storageLength : ℕ) (keys : List ℕ) (p : Processor) 
         rw (tested, spanned)
         (rw (
           by-one s address Addressing test-5 steady-5 count positive whole,
-          by-one s address AbsoluteAddress test-67 steady-67 count positive whole,
           by-one s address Protection test-4 steady-4 count positive whole,
         ) at others)
 
@@ -154,6 +142,5 @@ module _ (s : Settings) (storageLength : ℕ) (keys : List ℕ) (p : Processor) 
         rw (tested, spanned-here, spanned-there, end)
         (rw (
           by-two s address Addressing test-5 steady-5 count beyond short,
-          by-two s address AbsoluteAddress test-67 steady-67 count beyond short,
           by-two s address Protection test-4 steady-4 count beyond short,
         ) at others)

@@ -1,14 +1,14 @@
 -- An access by unit: how far its first unit reaches, its spans, and tests at the first byte of each span in the place of one for each byte.
 use Prim.Native.Nat.{ℕ, _-_, _%_}
-use mathlib.Core.Bool.{Bool, cond, _&&_}
+use mathlib.Core.Bool.{Bool, cond}
 use mathlib.Core.List.{List}
-use lib.Dec.{leb, ltb}
+use lib.Dec.{leb}
 use lib.ListN.{getD}
 use Rattle.machine.specs.declared.Settings.{Settings}
 use Rattle.machine.specs.declared.Processor.{Processor}
 use Rattle.machine.specs.declared.AccessKind.{AccessKind}
 use Rattle.machine.specs.declared.Reason.{Reason}
-use Rattle.machine.specs.declared.Reason.the-variants.{Operand, Addressing, AbsoluteAddress, Protection}
+use Rattle.machine.specs.declared.Reason.the-variants.{Operand, Addressing, Protection}
 use Rattle.machine.specs.declared.Request.the-variants.{Access}
 use Rattle.machine.specs.declared.Verdict.{Verdict}
 use Rattle.machine.specs.declared.Verdict.the-variants.{Clear, Stop}
@@ -39,26 +39,21 @@ firstLines s storageLength keyLength p kind address count bufferLength =
     firstOf (firstOf (configuration s storageLength keyLength) (ownRecord storageLength p))
     (line Operand (operandInvalid (Access kind address count) bufferLength))
 
--- lines 5 and 67 at the first byte of a span
+-- line 5 at the first byte of a span
 abbrev pub spanOutside : ℕ → Span → Bool
 spanOutside storageLength here = leb storageLength (here .real)
 
-abbrev pub spanAbsoluteOutside : ℕ → Span → Bool
-spanAbsoluteOutside storageLength here = ltb (here .real) storageLength && leb storageLength (here .absolute)
-
--- lines 5, 67 and 4 of an access in one unit
+-- lines 5 and 4 of an access in one unit
 unfoldable pub linesOfOne : ℕ → Processor → AccessKind → Span → Verdict
 linesOfOne storageLength p kind here =
-    firstOf (line Addressing (spanOutside storageLength here))
-    (firstOf (line AbsoluteAddress (spanAbsoluteOutside storageLength here)) (line Protection (forbidden kind p (here .real) (here .key))))
+    firstOf (line Addressing (spanOutside storageLength here)) (line Protection (forbidden kind p (here .real) (here .key)))
 
 -- refused at byte 0 where the first test holds, else at byte k where the second does
 unfoldable pub twoTests : Reason → Bool → ℕ → Bool → Verdict
 twoTests r here k there = firstOf (cond here (Stop r 0) Clear) (cond there (Stop r k) Clear)
 
--- lines 5, 67 and 4 of an access in two units, byte k being the first in the second unit
+-- lines 5 and 4 of an access in two units, byte k being the first in the second unit
 unfoldable pub linesOfTwo : ℕ → Processor → AccessKind → Span → ℕ → Span → Verdict
 linesOfTwo storageLength p kind here k there =
     firstOf (twoTests Addressing (spanOutside storageLength here) k (spanOutside storageLength there))
-    (firstOf (twoTests AbsoluteAddress (spanAbsoluteOutside storageLength here) k (spanAbsoluteOutside storageLength there))
-    (twoTests Protection (forbidden kind p (here .real) (here .key)) k (forbidden kind p (there .real) (there .key))))
+    (twoTests Protection (forbidden kind p (here .real) (here .key)) k (forbidden kind p (there .real) (there .key)))

@@ -1,5 +1,5 @@
 // The table of answers for an access. Lines 64, 65 and 66 test the request as a whole; lines 1, 2, 19 and 6 are for instructions only; lines
-// 5, 67 and 4 are tested at the first byte of each of its one or two spans.
+// 5 and 4 are tested at the first byte of each of its one or two spans.
 use crate::span::Span;
 use machine::AccessKind;
 use machine::Processor;
@@ -14,7 +14,7 @@ use machine::numbers::valid;
 use storage_key::forbidden;
 ghost use mathlib.Core.Path.{_≡_};
 ghost use Rattle.machine.specs.Table.{operandInvalid};
-ghost use Rattle.access.specs.ByUnit.{spanOutside, spanAbsoluteOutside, twoTests, firstLines, linesOfOne, linesOfTwo};
+ghost use Rattle.access.specs.ByUnit.{spanOutside, twoTests, firstLines, linesOfOne, linesOfTwo};
 
 // Line 66.
 fn operand_invalid(kind: AccessKind, address: u32, count: u32, buffer_length: usize) -> bool
@@ -48,14 +48,7 @@ fn outside(storage_length: usize, here: Span) -> bool
     storage_length <= here.real as usize
 }
 
-// Line 67 at the first byte of a span.
-fn absolute_outside(storage_length: usize, here: Span) -> bool
-    ensures { λ r. ⌜ r ≡ spanAbsoluteOutside «storage_length» here ⌝ }
-{
-    ((here.real as usize) < storage_length) & (storage_length <= here.absolute as usize)
-}
-
-// Lines 5, 67 and 4 of an access in one unit. The first two return early, for speed (docs/BENCHMARK.md).
+// Lines 5 and 4 of an access in one unit. The first returns early, for speed (docs/BENCHMARK.md).
 pub(crate) fn lines_of_one(
     storage_length: usize,
     p: Processor,
@@ -67,12 +60,6 @@ pub(crate) fn lines_of_one(
     if outside(storage_length, here) {
         return Verdict::Stop {
             reason: Reason::Addressing,
-            place: 0,
-        };
-    }
-    if absolute_outside(storage_length, here) {
-        return Verdict::Stop {
-            reason: Reason::AbsoluteAddress,
             place: 0,
         };
     }
@@ -93,7 +80,7 @@ fn two_tests(reason: Reason, here: bool, k: u32, there: bool) -> Verdict
     Verdict::Clear
 }
 
-// Lines 5, 67 and 4 of an access in two units, byte k being the first in the second unit.
+// Lines 5 and 4 of an access in two units, byte k being the first in the second unit.
 pub(crate) fn lines_of_two(
     storage_length: usize,
     p: Processor,
@@ -110,17 +97,11 @@ pub(crate) fn lines_of_two(
         k,
         outside(storage_length, there),
     );
-    let absolute_address = two_tests(
-        Reason::AbsoluteAddress,
-        absolute_outside(storage_length, here),
-        k,
-        absolute_outside(storage_length, there),
-    );
     let protection = two_tests(
         Reason::Protection,
         forbidden(kind, p, here.real, here.key),
         k,
         forbidden(kind, p, there.real, there.key),
     );
-    first_of(addressing, first_of(absolute_address, protection))
+    first_of(addressing, protection)
 }

@@ -5,8 +5,7 @@ use Rattle.machine.specs.declared.Verdict.{Verdict}
 use Rattle.machine.specs.Answers.{firstOf, firstLine}
 use Rattle.machine.proofs.Verdicts.{first-none, first-assoc}
 
-pub nine-lines : (a b c d e f g h i : Verdict)
-    → firstOf (firstOf a b) (firstOf (firstOf c d) (firstOf (firstOf e (firstOf f g)) (firstOf h i)))
-    ≡ firstLine (a ∷ b ∷ c ∷ d ∷ e ∷ f ∷ g ∷ h ∷ i ∷ [])
+pub eight-lines : (a b c d e f g h : Verdict)
+    → firstOf (firstOf a b) (firstOf (firstOf c d) (firstOf (firstOf e (firstOf f g)) h)) ≡ firstLine (a ∷ b ∷ c ∷ d ∷ e ∷ f ∷ g ∷ h ∷ [])
 unfolding firstLine
-nine-lines a b c d e f g h i = simp (first-assoc, first-none)
+eight-lines a b c d e f g h = simp (first-assoc, first-none)

@@ -18,7 +18,7 @@ use Rattle.machine.specs.Numbers.{unitOf}
 use Rattle.machine.specs.Answers.{answerOf, stops}
 use Rattle.machine.specs.Prefixing.{absolute}
 use Rattle.machine.specs.KeyInstructions.{keyCount, twoKeys, wordGiven, keysLeft, codeLeft}
-use Rattle.machine.specs.Table.{addressing, absoluteAddressing, beforeProtection}
+use Rattle.machine.specs.Table.{addressing, beforeProtection}
 use Rattle.machine.specs.Step.{withCode, outcome, completed, step}
 use Rattle.machine.proofs.Verdicts.{not-both, stops-not}
 use Rattle.machine.proofs.Requests.{refused-instruction, completed-instruction}
@@ -34,7 +34,7 @@ one-or-two keyLength u false all = (omega (arith, all 0 (omega arith)), λ e. ab
 
 lines-of-table : (s : Settings) (storageLength keyLength : ℕ) (p : Processor) (i : KeyInstruction)
     → decodedVerdict s storageLength keyLength p (decodedOf i) ≡ beforeProtection s storageLength keyLength p (Key i) 0
-unfolding decodedOf decodedVerdict beforeProtection addressing absoluteAddressing
+unfolding decodedOf decodedVerdict beforeProtection addressing
 lines-of-table s storageLength keyLength p i = refl
 
 -- the unit of a decoded instruction, and whether it works on two keys

@@ -6,11 +6,11 @@ use lib.Dec.{leb}
 use Rattle.machine.specs.declared.Settings.{Settings}
 use Rattle.machine.specs.declared.Processor.{Processor}
 use Rattle.machine.specs.declared.KeyInstruction.{KeyInstruction}
-use Rattle.machine.specs.declared.Reason.the-variants.{Operand, Operation, Privileged, SpecialOperation, Specification, Addressing, AbsoluteAddress}
+use Rattle.machine.specs.declared.Reason.the-variants.{Operand, Operation, Privileged, SpecialOperation, Specification, Addressing}
 use Rattle.machine.specs.declared.Verdict.{Verdict}
 use Rattle.machine.specs.Answers.{line, firstLine}
 use Rattle.machine.specs.KeyInstructions.{extended, designated, operation, addressInvalid, lowBitsOn}
-use Rattle.machine.specs.Table.{configuration, ownRecord, absoluteOutside}
+use Rattle.machine.specs.Table.{configuration, ownRecord}
 use Rattle.key_instruction.specs.declared.decode.Decoded.{Decoded}
 
 unfoldable pub decodedOf : KeyInstruction → Decoded
@@ -35,5 +35,4 @@ decodedVerdict s storageLength keyLength p d =
     ∷ line SpecialOperation (not (d .extended) && s .«four_k» && not (p .«key_control»))
     ∷ line Specification (d .«low_bits_on»)
     ∷ line Addressing (leb storageLength (d .block))
-    ∷ line AbsoluteAddress (absoluteOutside storageLength p (d .block))
     ∷ [])

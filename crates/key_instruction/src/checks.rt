@@ -9,9 +9,7 @@ use machine::answers::refuse;
 use machine::numbers::valid;
 ghost use mathlib.Core.Path.{_≡_};
 ghost use mathlib.Core.Bool.{not, _&&_};
-ghost use lib.Dec.{leb};
 ghost use Rattle.machine.specs.Answers.{line, firstOf};
-ghost use Rattle.machine.specs.Table.{absoluteOutside};
 ghost use Rattle.key_instruction.specs.Decoded.{decodedVerdict};
 
 // Lines 66 and 1: the address of RRB, and the extensions.
@@ -44,24 +42,7 @@ fn state_lines(settings: Settings, p: Processor, decoded: Decoded) -> Verdict
     )
 }
 
-// Lines 5 and 67: the real address of a block, and its absolute address.
-fn address_lines(storage_length: usize, p: Processor, block: u32) -> Verdict
-    ensures { λ r. ⌜ r
-        ≡ firstOf (line Reason.Addressing (leb «storage_length» block))
-        (line Reason.AbsoluteAddress (absoluteOutside «storage_length» p block)) ⌝ }
-{
-    let absolute = prefixing::absolute(p.prefix, block) as usize;
-    let real = block as usize;
-    first_of(
-        refuse(Reason::Addressing, real >= storage_length),
-        refuse(
-            Reason::AbsoluteAddress,
-            (real < storage_length) & (absolute >= storage_length),
-        ),
-    )
-}
-
-// The lines from 64 to 67 for an instruction of a processor with the record p.
+// The lines from 64 to 5 for an instruction of a processor with the record p.
 pub(crate) fn verdict(
     settings: Settings,
     storage_length: usize,
@@ -74,6 +55,6 @@ pub(crate) fn verdict(
     let machine = valid(settings, storage_length, key_length, p);
     let operand = operand_lines(settings, decoded);
     let state = state_lines(settings, p, decoded);
-    let address = address_lines(storage_length, p, decoded.block);
+    let address = refuse(Reason::Addressing, storage_length <= decoded.block as usize);
     first_of(machine, first_of(operand, first_of(state, address)))
 }

@@ -1,58 +1,31 @@
 -- The lines before protection: what is known of a request that they let pass. The table is taken apart line by line, and the tests of a line
 -- one by one. Assumes nothing.
-use Prim.Native.Nat.{ℕ, _/_, _%_, _<_, _≤_}
-use mathlib.Core.Path.{_≡_}
-use mathlib.Core.Bool.{true, false, _&&_}
+use Prim.Native.Nat.{ℕ, _<_, _≤_}
+use mathlib.Core.Path.{_≡_, refl}
+use mathlib.Core.Bool.{false}
 use mathlib.Core.List.{List}
 use native.Mathlib.Nat.{pos-of-ne-zero}
-use native.Mathlib.Omega.{arith}
 use lib.ListN.{length}
 use lib.Dec.{eqb, ltb, leb}
-use borrow.Author.Tests.{ltb-true, ltb-false, leb-true, leb-false, eqb-true, eqb-false, not-false}
+use borrow.Author.Tests.{ltb-false, eqb-false}
 use Rattle.machine.specs.declared.Settings.{Settings}
 use Rattle.machine.specs.declared.Processor.{Processor}
 use Rattle.machine.specs.declared.AccessKind.{AccessKind}
 use Rattle.machine.specs.declared.Request.{Request}
 use Rattle.machine.specs.declared.Request.the-variants.{Access}
-use Rattle.machine.specs.declared.Reason.the-variants.{Addressing}
 use Rattle.machine.specs.declared.Verdict.the-variants.{Clear}
-use Rattle.machine.specs.Numbers.{storageMaximum, operandLimit, storageValid, lengthsValid, recordValid, unitSize, unitOf, add24}
+use Rattle.machine.specs.Numbers.{operandLimit, unitOf, add24}
 use Rattle.machine.specs.Answers.{firstLine}
-use Rattle.machine.specs.Prefixing.{absolute, byteAddress}
-use Rattle.machine.specs.Table.{operandInvalid, addressing, beforeProtection, verdict}
-use Rattle.machine.proofs.Verdicts.{both, neither, line-clear, first-clear, bytes-clear}
-use Rattle.machine.proofs.Prefixing.{prefixing-stays-inside}
+use Rattle.machine.specs.Prefixing.{byteAddress}
+use Rattle.machine.specs.Table.{configuration, ownRecord, operandInvalid, addressing, beforeProtection, verdict}
+use Rattle.machine.proofs.Verdicts.{neither, line-clear, first-clear}
 use Rattle.machine.proofs.Units.{unit-inside}
-
--- what lines 64 and 65 let pass: storage of whole blocks that addresses of 31 bits reach, a key for each unit of it, the prefix below its end
-pub record Configured (s : Settings) (storageLength keyLength : ℕ) (p : Processor) : Type 0 where
-  pub whole : storageLength % 4096 ≡ 0
-  pub reached : storageLength ≤ 2147483648
-  pub keyed : keyLength ≡ storageLength / unitSize s
-  pub installed : p .prefix < storageLength
-
-pub configured : (s : Settings) (storageLength keyLength : ℕ) (p : Processor)
-    → lengthsValid s storageLength keyLength ≡ true → recordValid storageLength p ≡ true → Configured s storageLength keyLength p
-configured s storageLength keyLength p l r =
-    let (sized, keyed) = both (storageValid storageLength) _ l in
-    let (blocks, small) = both _ (leb storageLength storageMaximum) sized in
-    record {
-      whole = eqb-true _ _ (both _ _ blocks .0);
-      reached = omega (arith, leb-true storageLength storageMaximum small);
-      keyed = eqb-true _ _ keyed;
-      installed = ltb-true _ _ (both (leb (p .«psw_key») 15 && leb (p .code) 3 && eqb (p .prefix % 4096) 0) _ r .1);
-    }
-
--- and then a real address inside storage has its absolute address inside
-pub stays-inside : (s : Settings) (storageLength keyLength : ℕ) (p : Processor) (real : ℕ) → Configured s storageLength keyLength p
-    → real < storageLength → absolute (p .prefix) real < storageLength
-stays-inside s storageLength keyLength p real known =
-    prefixing-stays-inside (p .prefix) real storageLength (known .whole) (known .reached) (known .installed)
+use Rattle.machine.proofs.AbsoluteAddress.{Configured, configured, named-absolute-inside}
 
 -- what is known of a request that the lines before protection let pass
 pub record Cleared (s : Settings) (storageLength keyLength : ℕ) (p : Processor) (r : Request) (bufferLength : ℕ) : Type 0 where
-  pub lengths : lengthsValid s storageLength keyLength ≡ true
-  pub own : recordValid storageLength p ≡ true
+  pub lengths : configuration s storageLength keyLength ≡ Clear
+  pub own : ownRecord storageLength p ≡ Clear
   pub operands : operandInvalid r bufferLength ≡ false
   pub inside : addressing storageLength r ≡ Clear
 
@@ -68,8 +41,8 @@ cleared s storageLength keyLength p r bufferLength e =
     let (l19, from6) = first-clear _ _ from19 in
     let (l6, from5) = first-clear _ _ from6 in
     record {
-      lengths = not-false _ (line-clear _ _ l64);
-      own = not-false _ (line-clear _ _ l65);
+      lengths = l64;
+      own = l65;
       operands = line-clear _ _ l66;
       inside = first-clear _ _ from5 .0;
     }
@@ -104,7 +77,6 @@ module _ (s : Settings) (storageLength keyLength : ℕ) (p : Processor) (kind : 
   known = configured s storageLength keyLength p (lines .lengths) (lines .own)
 
   pub access-cleared : AccessCleared storageLength p address count bufferLength
-  unfolding addressing
   access-cleared =
       let (positive, short, buffered) = operands-passed kind address count bufferLength (lines .operands) in
       record {
@@ -112,8 +84,8 @@ module _ (s : Settings) (storageLength keyLength : ℕ) (p : Processor) (kind : 
         short = short;
         buffered = buffered;
         byte-inside = λ i h.
-            stays-inside s storageLength keyLength p (add24 address i) known
-            (leb-false _ _ (bytes-clear Addressing (λ i. leb storageLength (add24 address i)) count (lines .inside) i h));
+            named-absolute-inside s storageLength keyLength p (lines .lengths) (lines .own) (Access kind address count) (lines .inside)
+            (add24 address i) (i, h, refl);
       }
 
   -- the keys of the units that it touches are in the key array

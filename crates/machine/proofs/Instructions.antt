@@ -32,7 +32,7 @@ use Rattle.machine.proofs.KeyInstructions.{key-instruction-passed}
 use Rattle.machine.proofs.Requests.{completed-step, completed-cleared}
 use Rattle.machine.proofs.TableLines.{NoneOf}
 use Rattle.machine.proofs.Sentences.{Line64, Line65, Line66, Line1, Line2, Line19, Line6, Line5, Line4}
-use Rattle.machine.proofs.Refusals.{linesOf, completes, no-67}
+use Rattle.machine.proofs.Refusals.{linesOf, completes}
 
 -- a word with the bits 0-7, 8-20 and 21-31 a, b and c: ISK, SSK and RRB take b, the number of a 2K block, and ignore c and, but for RRB, a
 abbrev pub word2K : ℕ → ℕ → ℕ → ℕ
@@ -255,8 +255,7 @@ module _ (s : Settings) (storage keys : List ℕ) (p : Processor) (buffer : List
       from (ready, q) =
           let (l66, l1, l19, l6, l5) = own .1 q in
           let l2 : ¬ Line2 p r = λ h. not-on _ .1 (ready .supervisor) (privileged .0 h) in
-          let l67 = no-67 s storage keys p r buffer (ready .configured, (ready .own-record, tt)) in
-          (ready .configured, (ready .own-record, (l66, (l1, (l2, (l19, (l6, (l5, (l67, (unprotected, tt))))))))))
+          (ready .configured, (ready .own-record, (l66, (l1, (l2, (l19, (l6, (l5, (unprotected, tt)))))))))
 
 -- a block that is not outside storage is inside
 pub inside-storage : (storageLength a b : ℕ) → a ≡ b → (¬ (storageLength ≤ a)) ↔ (b < storageLength)

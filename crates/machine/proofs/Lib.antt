@@ -8,9 +8,10 @@ pub mod SmallFacts
 pub mod Prefixing
 pub mod Units
 pub mod KeyBytes
-pub mod BeforeProtection
 pub mod AbsoluteAddress
+pub mod BeforeProtection
 pub mod Requests
+pub mod OwnRecord
 pub mod AnswerPlace
 pub mod Accesses
 pub mod KeyInstructions
@@ -21,6 +22,7 @@ pub mod Sentences
 pub mod Refusals
 pub mod Instructions
 pub mod PrefixInstructions
+pub mod PrintedTable
 pub mod Rows
 -- A request over the pair of records
 pub mod Pairs

@@ -21,7 +21,7 @@ use Rattle.machine.specs.declared.Verdict.the-variants.{Clear, Stop}
 use Rattle.machine.specs.Answers.{number, numberOf, answerOf, line, firstOf, firstLine}
 use Rattle.machine.specs.Numbers.{lengthsValid}
 use Rattle.machine.specs.KeyInstructions.{keyCount, twoKeys}
-use Rattle.machine.specs.Table.{addressing, absoluteAddressing, protection, beforeProtection, verdict}
+use Rattle.machine.specs.Table.{addressing, protection, beforeProtection, verdict}
 use Rattle.machine.specs.Step.{step}
 use Rattle.machine.specs.Pair.{withoutRecord, served, pairStep}
 use Rattle.machine.specs.Units.{unitCount, unitAt, names}
@@ -38,20 +38,19 @@ NamingNumber (Access kind address count) x = (x ≡ 0) ⊎ (x ≡ 4)
 NamingNumber (Key i) x = x ≡ 0
 NamingNumber (Prefix i) x = ⊥
 
-never-4-bytes : (storageLength : ℕ) (p : Processor) (r : Request) → Never 4 (addressing storageLength r) × Never 4 (absoluteAddressing storageLength p r)
-unfolding addressing absoluteAddressing
-never-4-bytes storageLength p (Access kind address count) = (never-bytes 4 _ _ count (omega arith), never-bytes 4 _ _ count (omega arith))
-never-4-bytes storageLength p (Key i) = (never-line 4 _ _ (omega arith), never-line 4 _ _ (omega arith))
-never-4-bytes storageLength p (Prefix i) = (never-line 4 _ _ (omega arith), tt)
+never-4-bytes : (storageLength : ℕ) (r : Request) → Never 4 (addressing storageLength r)
+unfolding addressing
+never-4-bytes storageLength (Access kind address count) = never-bytes 4 _ _ count (omega arith)
+never-4-bytes storageLength (Key i) = never-line 4 _ _ (omega arith)
+never-4-bytes storageLength (Prefix i) = never-line 4 _ _ (omega arith)
 
 -- no line before protection has the number 4
 never-4 : (s : Settings) (storageLength keyLength : ℕ) (p : Processor) (r : Request) (bufferLength : ℕ)
     → Never 4 (beforeProtection s storageLength keyLength p r bufferLength)
 unfolding beforeProtection firstLine
 never-4 s storageLength keyLength p r bufferLength =
-    let (real, absolute) = never-4-bytes storageLength p r in
     pass _ _ _ (omega arith) (pass _ _ _ (omega arith) (pass _ _ _ (omega arith) (pass _ _ _ (omega arith) (pass _ _ _ (omega arith)
-    (pass _ _ _ (omega arith) (pass _ _ _ (omega arith) (never-first 4 _ _ real (λ _. never-first 4 _ _ absolute (λ _. tt)))))))))
+    (pass _ _ _ (omega arith) (pass _ _ _ (omega arith) (never-first 4 _ _ (never-4-bytes storageLength r) (λ _. tt))))))))
   where
     pass : (q : Reason) (b : Bool) (w : Verdict) → number q ≢ 4 → Never 4 w → Never 4 (firstOf (line q b) w)
     pass q b w h k = never-first 4 _ w (never-line 4 q b h) (λ _. k)

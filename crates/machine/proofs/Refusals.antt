@@ -4,7 +4,7 @@
 -- Assumes nothing.
 use Prim.Native.Nat.{ℕ, _≤_}
 use mathlib.Core.Path.{_≡_, refl, sym, ap, subst, _∙_}
-use mathlib.Core.Bool.{Bool, true, false, not}
+use mathlib.Core.Bool.{Bool, true, false}
 use mathlib.Core.Logic.{_≢_, _↔_, Iff·trans, true-and}
 use mathlib.Core.List.{List, [], _∷_, _++_}
 use native.Mathlib.Omega.{arith}
@@ -19,19 +19,17 @@ use Rattle.machine.specs.declared.Reason.the-variants.{Configuration, Re
 use Rattle.machine.specs.declared.Reason.the-variants.{Specification, Addressing, Protection}
 use Rattle.machine.specs.declared.Verdict.{Verdict}
 use Rattle.machine.specs.declared.Verdict.the-variants.{Clear, Stop}
-use Rattle.machine.specs.Answers.{Values, number, stops, line, firstOf}
+use Rattle.machine.specs.Answers.{Values, number, line, firstOf}
 use Rattle.machine.specs.Table.{configuration, ownRecord, operandInvalid, operationException, privilegedException}
-use Rattle.machine.specs.Table.{specialOperationException, specificationException, addressing, absoluteAddressing, protection, beforeProtection, verdict}
+use Rattle.machine.specs.Table.{specialOperationException, specificationException, addressing, protection, beforeProtection, verdict}
 use Rattle.machine.specs.Step.{completed, step}
-use Rattle.machine.proofs.Verdicts.{not-both}
-use Rattle.machine.proofs.AbsoluteAddress.{absolute-addressing-clear}
-use Rattle.machine.proofs.Requests.{NoAccess, by-verdict, completed-number, never-67}
-use Rattle.machine.proofs.Tests.{Tells, at-most}
+use Rattle.machine.proofs.Requests.{NoAccess, by-verdict, completed-number}
+use Rattle.machine.proofs.Tests.{at-most}
 use Rattle.machine.proofs.TableLines.{Line, Sound, AllSound, NoneOf, Only, NumberedOther, FirstSuch, shown, tableOf}
 use Rattle.machine.proofs.TableLines.{table-clears, line-answers, line-places, line-sound, bytes-place, in-rules}
-use Rattle.machine.proofs.Sentences.{Line64, Line65, Line66, Line1, Line2, Line19, Line6, Line5, Line67, Line4, Forbidden, realOf, keyAt}
+use Rattle.machine.proofs.Sentences.{Line64, Line65, Line66, Line1, Line2, Line19, Line6, Line5, Line4, Forbidden, realOf, keyAt}
 use Rattle.machine.proofs.Sentences.{tells-64, tells-65, tells-66, tells-1, tells-2, tells-19, tells-6, tells-forbidden}
-use Rattle.machine.proofs.Sentences.{sound-5, sound-67, sound-4}
+use Rattle.machine.proofs.Sentences.{sound-5, sound-4}
 
 -- the lines of a request's table, from top to bottom
 abbrev pub linesOf : Settings → (storageLength : ℕ) → List ℕ → Processor → Request → (bufferLength : ℕ) → List Line
@@ -44,7 +42,6 @@ linesOf s storageLength keys p r bufferLength =
     ∷ record { number = 19; verdict = line SpecialOperation (specialOperationException s p r); Applies = Line19 s p r }
     ∷ record { number = 6; verdict = line Specification (specificationException r); Applies = Line6 r }
     ∷ record { number = 5; verdict = addressing storageLength r; Applies = Line5 storageLength r }
-    ∷ record { number = 67; verdict = absoluteAddressing storageLength p r; Applies = Line67 storageLength p r }
     ∷ record { number = 4; verdict = protection s keys p r; Applies = Line4 s keys p r }
     ∷ []
 
@@ -59,7 +56,7 @@ lines-sound s storageLength keys p r bufferLength =
     let l19 = line-sound SpecialOperation _ (tells-19 s p r) in
     let l6 = line-sound Specification _ (tells-6 r) in
     let l5 = sound-5 storageLength r in
-    (l64, (l65, (l66, (l1, (l2, (l19, (l6, (l5, (sound-67 storageLength p r, (sound-4 s keys p r, tt))))))))))
+    (l64, (l65, (l66, (l1, (l2, (l19, (l6, (l5, (sound-4 s keys p r, tt)))))))))
 
 module _ (s : Settings) (storage keys : List ℕ) (p : Processor) (r : Request) (buffer : List ℕ) where
   -- the number that comes back
@@ -74,7 +71,7 @@ module _ (s : Settings) (storage keys : List ℕ) (p : Processor) (r : Request) 
 
   as-lines : verdict s (length storage) keys p r (length buffer) ≡ tableOf lines
   unfolding verdict beforeProtection
-  as-lines = in-rules (take 9 lines) (record { number = 4; verdict = protection s keys p r; Applies = Line4 s keys p r })
+  as-lines = in-rules (take 8 lines) (record { number = 4; verdict = protection s keys p r; Applies = Line4 s keys p r })
 
   by-lines : answered ≡ shown (tableOf lines)
   by-lines =
@@ -112,25 +109,12 @@ module _ (s : Settings) (storage keys : List ℕ) (p : Processor) (r : Request) 
   pub refused-5 : (answered ≡ 5) ↔ (NoneOf (take 7 lines) × Line5 (length storage) r)
   refused-5 = by-line (take 7 lines) _ (drop 8 lines) sounds by-lines (omega arith) (omega arith) (omega arith)
 
-  pub refused-4 : (answered ≡ 4) ↔ (NoneOf (take 9 lines) × Line4 s keys p r)
-  refused-4 = by-line (take 9 lines) _ [] sounds by-lines (omega arith) tt (omega arith)
+  pub refused-4 : (answered ≡ 4) ↔ (NoneOf (take 8 lines) × Line4 s keys p r)
+  refused-4 = by-line (take 8 lines) _ [] sounds by-lines (omega arith) tt (omega arith)
 
   -- it completes exactly when none of them applies
   pub completes : (answered ≡ 0) ↔ NoneOf lines
   completes = rw by-lines (table-clears lines sounds (omega arith))
-
-  -- line 67 does not apply where lines 64 and 65 do not
-  pub no-67 : NoneOf (take 2 lines) → ¬ Line67 (length storage) p r
-  no-67 none beyond = not-both (sound-67 (length storage) p r .when .1 beyond) (ap stops clear)
-    where
-      passes : {P : Type 0} (b : Bool) → Tells (not b) P → ¬ P → b ≡ true
-      passes true tells none = refl
-      passes false tells none = absurd (none (tells .0 refl))
-
-      clear : absoluteAddressing (length storage) p r ≡ Clear
-      clear =
-          absolute-addressing-clear s (length storage) (length keys) p
-          (passes _ (tells-64 s (length storage) (length keys)) (none .0)) (passes _ (tells-65 (length storage) p) (none .1 .0)) r
 
   -- the verdicts of lines 5 and 4 where they answer
   verdict-5 : (reason : Reason) (place : ℕ) → verdict s (length storage) keys p r (length buffer) ≡ Stop reason place → number reason ≡ 5
@@ -142,7 +126,7 @@ module _ (s : Settings) (storage keys : List ℕ) (p : Processor) (r : Request) 
   verdict-4 : (reason : Reason) (place : ℕ) → verdict s (length storage) keys p r (length buffer) ≡ Stop reason place → number reason ≡ 4
       → protection s keys p r ≡ Stop reason place
   verdict-4 reason place e q =
-      line-places (take 9 lines) (record { number = 4; verdict = protection s keys p r; Applies = Line4 s keys p r }) []
+      line-places (take 8 lines) (record { number = 4; verdict = protection s keys p r; Applies = Line4 s keys p r }) []
       sounds (omega arith) tt (omega arith) reason place (sym as-lines ∙ e) q
 
 -- The place of an access that is refused with 5 or 4: the first byte outside storage, and the first that is forbidden.
@@ -208,16 +192,16 @@ table-starts E (l ∷ ls) all = go (l .verdict) (all .0) (table-starts E ls (all
 
 -- the number of a line that does not go by bytes
 abbrev NotByBytes : ℕ → Type 0
-NotByBytes n = (n ≢ 5) × (n ≢ 67) × (n ≢ 4)
+NotByBytes n = (n ≢ 5) × (n ≢ 4)
 
 module _ (s : Settings) (storage keys : List ℕ) (p : Processor) (r : Request) (buffer : List ℕ) where
   abbrev answer : Values
   answer = step s storage keys p r buffer .answer
 
-  at-start : (E : ℕ → Type 0) → Starts E (addressing (length storage) r) → Starts E (absoluteAddressing (length storage) p r)
-      → Starts E (protection s keys p r) → E (answer .number) → answer .place ≡ 0
+  at-start : (E : ℕ → Type 0) → Starts E (addressing (length storage) r) → Starts E (protection s keys p r) → E (answer .number)
+      → answer .place ≡ 0
   unfolding completed
-  at-start E l5 l67 l4 =
+  at-start E l5 l4 =
       by-verdict s storage keys p r buffer (λ o. E (o .answer .number) → o .answer .place ≡ 0)
       (λ reason place e. rw (sym (as-lines s storage keys p r buffer) ∙ e) at all) (λ e h. done r)
     where
@@ -227,7 +211,7 @@ module _ (s : Settings) (storage keys : List ℕ) (p : Processor) (r : Request) 
       all : Starts E (tableOf (linesOf s (length storage) keys p r (length buffer)))
       all =
           table-starts E (linesOf s (length storage) keys p r (length buffer))
-          (at _ _, (at _ _, (at _ _, (at _ _, (at _ _, (at _ _, (at _ _, (l5, (l67, (l4, tt))))))))))
+          (at _ _, (at _ _, (at _ _, (at _ _, (at _ _, (at _ _, (at _ _, (l5, (l4, tt)))))))))
 
       done : (r : Request) → completed s storage keys p r buffer .answer .place ≡ 0
       done (Access kind address count) = refl
@@ -239,20 +223,19 @@ module _ (s : Settings) (storage keys : List ℕ) (p : Processor) (r : Request) 
   other-place not-5 not-4 =
       at-start NotByBytes
       (other-starts NotByBytes (sound-5 (length storage) r) (λ h. h .0 refl))
-      (other-starts NotByBytes (sound-67 (length storage) p r) (λ h. h .1 refl))
-      (other-starts NotByBytes (sound-4 s keys p r) (λ h. h .2 refl))
-      (not-5, never-67 s storage keys p r buffer, not-4)
+      (other-starts NotByBytes (sound-4 s keys p r) (λ h. h .1 refl))
+      (not-5, not-4)
 
   -- and whatever the number, for an instruction
   pub instruction-place : NoAccess r → answer .place ≡ 0
-  unfolding addressing absoluteAddressing protection
+  unfolding addressing protection
   instruction-place other = go r other at-start
     where
       go : (q : Request) → NoAccess q
-          → ((E : ℕ → Type 0) → Starts E (addressing (length storage) q) → Starts E (absoluteAddressing (length storage) p q)
-          → Starts E (protection s keys p q) → E (answer .number) → answer .place ≡ 0) → answer .place ≡ 0
-      go (Key i) h f = f (λ n. Unit {0}) (line-starts _ _ _) (line-starts _ _ _) tt tt
-      go (Prefix i) h f = f (λ n. Unit {0}) (line-starts _ _ _) tt tt tt
+          → ((E : ℕ → Type 0) → Starts E (addressing (length storage) q) → Starts E (protection s keys p q) → E (answer .number)
+          → answer .place ≡ 0) → answer .place ≡ 0
+      go (Key i) h f = f (λ n. Unit {0}) (line-starts _ _ _) tt tt
+      go (Prefix i) h f = f (λ n. Unit {0}) (line-starts _ _ _) tt tt
       go (Access kind address count) h f = absurd h
 
   -- the word of a request that is refused is 0

@@ -22,7 +22,7 @@ use Rattle.machine.specs.Answers.{Values, line, firstOf, firstByte, firs
 use Rattle.machine.specs.Prefixing.{absolute}
 use Rattle.machine.specs.Protection.{permitted, lowProtected}
 use Rattle.machine.specs.KeyInstructions.{wordGiven, keysLeft, codeLeft}
-use Rattle.machine.specs.Table.{addressing, absoluteAddressing, protection, beforeProtection, verdict}
+use Rattle.machine.specs.Table.{addressing, protection, beforeProtection, verdict}
 use Rattle.machine.specs.Step.{Outcome, keysRecorded, completed, performed, step}
 
 -- settings, storage length and key array
@@ -252,7 +252,7 @@ given (refused m p r buffer number place) = byLengths m p r buffer
 
 rows-computed : map given rows ≡ map due rows
 unfolding written keyOf afterFetch afterStore afterReset codeOf joined line firstOf firstByte firstLine absolute permitted lowProtected
-    wordGiven keysLeft codeLeft addressing absoluteAddressing protection beforeProtection verdict keysRecorded completed performed
+    wordGiven keysLeft codeLeft addressing protection beforeProtection verdict keysRecorded completed performed
 rows-computed = refl
 
 -- the claim: on every storage and with every buffer of these lengths the step gives what the row says

@@ -18,13 +18,13 @@ use Rattle.machine.specs.declared.KeyInstruction.the-variants.{Isk, Ssk,
 use Rattle.machine.specs.declared.PrefixInstruction.the-variants.{SetPrefix, StorePrefix}
 use Rattle.machine.specs.declared.Request.{Request}
 use Rattle.machine.specs.declared.Request.the-variants.{Access, Key, Prefix}
-use Rattle.machine.specs.declared.Reason.the-variants.{Addressing, AbsoluteAddress, Protection}
+use Rattle.machine.specs.declared.Reason.the-variants.{Addressing, Protection}
 use Rattle.machine.specs.Numbers.{lengthsValid, recordValid}
 use Rattle.machine.specs.Prefixing.{absolute, prefixOf}
 use Rattle.machine.specs.Protection.{matches, permitted, lowProtected, forbidden}
 use Rattle.machine.specs.KeyInstructions.{designated}
 use Rattle.machine.specs.Table.{operandInvalid, operationException, privilegedException, specialOperationException, specificationException}
-use Rattle.machine.specs.Table.{absoluteOutside, addressing, absoluteAddressing, protection}
+use Rattle.machine.specs.Table.{addressing, protection}
 use Rattle.machine.proofs.Tests.{Tells, Denies, off, either, both-hold, not-both-hold, neither-holds, never}
 use Rattle.machine.proofs.Tests.{equal, unequal, below, not-below, at-most, over}
 use Rattle.machine.proofs.TableLines.{Sound, line-sound, clear-sound, bytes-sound}
@@ -120,15 +120,6 @@ Line5 storageLength (Access kind address count) = (i : ℕ) × (i < count) × (s
 Line5 storageLength (Key i) = storageLength ≤ blockAddress i
 Line5 storageLength (Prefix (SetPrefix word)) = storageLength ≤ word % 16777216 / 4096 * 4096
 Line5 storageLength (Prefix StorePrefix) = ⊥
-
--- 67: the real address is inside storage and its absolute address is outside
-abbrev pub Beyond : ℕ → Processor → ℕ → Type 0
-Beyond storageLength p real = (real < storageLength) × (storageLength ≤ absolute (p .prefix) real)
-
-abbrev pub Line67 : ℕ → Processor → Request → Type 0
-Line67 storageLength p (Access kind address count) = (i : ℕ) × (i < count) × Beyond storageLength p (realOf address i)
-Line67 storageLength p (Key i) = Beyond storageLength p (blockAddress i)
-Line67 storageLength p (Prefix i) = ⊥
 
 -- 4: a byte of an access is forbidden. The access key and the key k do not match if the access key is not zero and not bits 0-3 of k. A store is
 -- forbidden at real addresses 0 to 511 with low-address protection, or where they do not match; a fetch where they do not and bit 4 of k is one
@@ -244,7 +235,7 @@ tells-6 (Key (Rrbe r2)) = never
 tells-6 (Access kind address count) = never
 tells-6 (Prefix i) = never
 
--- a block outside storage, and one that prefixing moves out, the block's address said as above
+-- the address of a block, said as above
 designated-address : (i : KeyInstruction) → designated i ≡ blockAddress i
 designated-address (Isk r1 r2) = omega arith
 designated-address (Ssk r1 r2) = omega arith
@@ -252,9 +243,6 @@ designated-address (Rrb address) = omega arith
 designated-address (Iske r1 r2) = omega arith
 designated-address (Sske r1 r2) = omega arith
 designated-address (Rrbe r2) = omega arith
-
-tells-beyond : (storageLength : ℕ) (p : Processor) (real : ℕ) → Tells (absoluteOutside storageLength p real) (Beyond storageLength p real)
-tells-beyond storageLength p real = both-hold _ _ (below real storageLength) (at-most storageLength (absolute (p .prefix) real))
 
 -- a byte that is forbidden
 differ : (accessKey k : ℕ) → Denies (matches accessKey k) (Differ accessKey k)
@@ -268,7 +256,7 @@ tells-forbidden Fetch p real k = off (matches (p .«psw_key») k || eqb (k / 8 %
     on : Denies (eqb (k / 8 % 2) 0) (k / 8 % 2 ≡ 1)
     on = Iff·trans (unequal (k / 8 % 2) 0) (λ h. omega arith, λ h e. omega arith)
 
--- Lines 5, 67 and 4.
+-- Lines 5 and 4.
 
 pub sound-5 : (storageLength : ℕ) (r : Request)
     → Sound (record { number = 5; verdict = addressing storageLength r; Applies = Line5 storageLength r })
@@ -279,13 +267,6 @@ sound-5 storageLength (Prefix (SetPrefix word)) =
     let e : prefixOf word ≡ word % 16777216 / 4096 * 4096 = omega arith in
     rw (← e) (line-sound Addressing _ (at-most storageLength (prefixOf word)))
 sound-5 storageLength (Prefix StorePrefix) = line-sound Addressing _ never
-
-pub sound-67 : (storageLength : ℕ) (p : Processor) (r : Request)
-    → Sound (record { number = 67; verdict = absoluteAddressing storageLength p r; Applies = Line67 storageLength p r })
-unfolding absoluteAddressing
-sound-67 storageLength p (Access kind address count) = bytes-sound AbsoluteAddress _ count (λ i. tells-beyond storageLength p (realOf address i))
-sound-67 storageLength p (Key i) = rw (← designated-address i) (line-sound AbsoluteAddress _ (tells-beyond storageLength p (designated i)))
-sound-67 storageLength p (Prefix i) = clear-sound 67
 
 pub sound-4 : (s : Settings) (keys : List ℕ) (p : Processor) (r : Request)
     → Sound (record { number = 4; verdict = protection s keys p r; Applies = Line4 s keys p r })

@@ -262,14 +262,11 @@ pub enum Number {
     Record = 65,
     /// 66: the count of an access, an address or the length of the buffer is wrong.
     Operand = 66,
-    /// 67: a real address is inside storage and its absolute address is outside.
-    /// No state gives this number, since a prefix outside storage gives 65.
-    AbsoluteAddress = 67,
 }
 
 impl Number {
     /// Every number, in the order of the codes.
-    pub const ALL: [Number; 11] = [
+    pub const ALL: [Number; 10] = [
         Number::Completed,
         Number::Operation,
         Number::Privileged,
@@ -280,7 +277,6 @@ impl Number {
         Number::Configuration,
         Number::Record,
         Number::Operand,
-        Number::AbsoluteAddress,
     ];
 
     /// The number itself.
@@ -294,7 +290,7 @@ impl Number {
         self as u16
     }
 
-    /// The meaning of a number, or `None` if document 01 has no such number.
+    /// The meaning of a number, or `None` if no answer has it.
     ///
     /// ```
     /// use storage_unit::Number;
@@ -314,7 +310,6 @@ impl Number {
             64 => Number::Configuration,
             65 => Number::Record,
             66 => Number::Operand,
-            67 => Number::AbsoluteAddress,
             _ => return None,
         })
     }
@@ -326,9 +321,8 @@ pub struct Answer {
     /// What happened. With any number but [`Number::Completed`], nothing lent
     /// and neither record has changed.
     pub number: Number,
-    /// For [`Number::Addressing`], [`Number::AbsoluteAddress`] and
-    /// [`Number::Protection`] of an access, the offset of the first byte
-    /// concerned; otherwise zero.
+    /// For [`Number::Addressing`] and [`Number::Protection`] of an access, the
+    /// offset of the first byte concerned; otherwise zero.
     pub place: u16,
     /// The result of a completed ISK, ISKE or STORE PREFIX; otherwise zero.
     pub word: u32,

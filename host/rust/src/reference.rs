@@ -156,7 +156,7 @@ impl Situation<'_> {
 type Line = fn(&Situation) -> Option<u16>;
 
 /// The lines of the table that refuse a request, from top to bottom.
-const LINES: [(Number, Line); 10] = [
+const LINES: [(Number, Line); 9] = [
     (Number::Configuration, line_64),
     (Number::Record, line_65),
     (Number::Operand, line_66),
@@ -165,7 +165,6 @@ const LINES: [(Number, Line); 10] = [
     (Number::SpecialOperation, line_19),
     (Number::Specification, line_6),
     (Number::Addressing, line_5),
-    (Number::AbsoluteAddress, line_67),
     (Number::Protection, line_4),
 ];
 
@@ -267,29 +266,6 @@ fn line_5(situation: &Situation) -> Option<u16> {
             place_0_if(situation.outside(new_prefix(word) + 4095))
         }
         Request::Prefix(PrefixInstruction::StorePrefix) => None,
-    }
-}
-
-/// A real address is inside storage and its absolute address is outside.
-fn line_67(situation: &Situation) -> Option<u16> {
-    let prefix = situation.own().prefix;
-    match *situation.request {
-        Request::Access { address, count, .. } => {
-            for offset in 0..count {
-                let real = real_address(address, offset);
-                let absolute = absolute_address(real, prefix);
-                if !situation.outside(real) && situation.outside(absolute) {
-                    return Some(offset as u16);
-                }
-            }
-            None
-        }
-        Request::Key(ref instruction) => {
-            let real = designated_block(instruction);
-            let absolute = absolute_address(real, prefix);
-            place_0_if(!situation.outside(real) && situation.outside(absolute))
-        }
-        Request::Prefix(_) => None,
     }
 }
 

@@ -131,7 +131,9 @@ fn answers_are_packed() {
     };
     assert_eq!(encode_answer(answer), 0x0013_0102_8899_AABB);
     assert_eq!(decode_answer(0x0013_0102_8899_AABB), Some(answer));
-    assert_eq!(decode_answer(0x0003_0000_0000_0000), None);
+    for unknown in [0x0003_0000_0000_0000, 0x0043_0000_0000_0000] {
+        assert_eq!(decode_answer(unknown), None);
+    }
     for code in 0..=u16::MAX {
         let number = Number::from_code(code);
         assert_eq!(

@@ -508,6 +508,85 @@ fn protection_by_absolute_address<U: Unit>() {
     );
 }
 
+/// Under each prefix inside storage, each real block is a block of storage: its last
+/// bytes are fetched and the keys of its two halves inserted.
+fn each_block_under_each_prefix<U: Unit>() {
+    for (four_k, blocks) in [false, true]
+        .into_iter()
+        .flat_map(|four_k| (1..5).map(move |blocks| (four_k, blocks)))
+    {
+        let mut before = with_storage(blocks * 4096);
+        before.settings.four_k = four_k;
+        before.keys = (0..before.settings.key_count(blocks * 4096) as u8)
+            .map(|unit| unit << 4)
+            .collect();
+        before.processors[0].key_control = true;
+        for (prefix, real) in (0..blocks).flat_map(|p| (0..blocks).map(move |r| (p, r))) {
+            before.processors[0].prefix = prefix as u32 * 4096;
+            let block = match real {
+                0 => prefix,
+                _ if real == prefix => 0,
+                _ => real,
+            };
+            let mut lent = before.clone();
+            let mut bytes = [0; 256];
+            let last = Request::fetch(real as u32 * 4096 + 3840, 256);
+            assert_eq!(
+                lent.request::<U>(0, &last, &mut bytes),
+                Answer::completed(0)
+            );
+            assert_eq!(
+                bytes.to_vec(),
+                (0..256)
+                    .map(|i| content(block * 4096 + 3840 + i))
+                    .collect::<Vec<_>>()
+            );
+            for half in [0, 2048] {
+                let key = before.keys[(block * 4096 + half) / before.settings.key_unit()];
+                let r2 = (real * 4096 + half) as u32;
+                assert_eq!(
+                    answer::<U>(&before, 0, isk(0, r2), 0),
+                    Answer::completed(u32::from(key))
+                );
+            }
+            let first = before.keys[block * 4096 / before.settings.key_unit()];
+            assert_eq!(
+                answer::<U>(&before, 0, iske(0, real as u32 * 4096), 0),
+                Answer::completed(u32::from(first))
+            );
+        }
+    }
+}
+
+/// A prefix at the end of storage is refused with 65 whatever is asked, and SET PREFIX
+/// never leaves one: after it a record passes.
+fn prefix_stays_inside<U: Unit>() {
+    for blocks in 1..5 {
+        let mut before = with_storage(blocks * 4096);
+        let end = blocks as u32 * 4096;
+        refused::<U>(&before, set_prefix(end), &[], Number::Addressing, 0);
+        for block in 0..blocks as u32 {
+            let mut lent = before.clone();
+            let given = lent.request::<U>(0, &set_prefix(block * 4096 + 4095), &mut []);
+            assert_eq!(given, Answer::completed(0));
+            for request in one_of_each() {
+                let given = answer::<U>(&lent, 0, request, 4);
+                let outside = request == set_prefix(4096) && blocks == 1;
+                let number = if outside {
+                    Number::Addressing
+                } else {
+                    Number::Completed
+                };
+                assert_eq!(given.number, number, "{request:?}");
+            }
+        }
+        before.processors[0].prefix = end;
+        for request in one_of_each() {
+            refused::<U>(&before, request, &[1; 4], Number::Record, 0);
+        }
+    }
+}
+
 /// An access that ends with its unit touches that unit only.
 fn access_to_the_end_of_a_unit<U: Unit>() {
     for (mut before, unit) in [(usual(), 2048), (with_4k_units(), 4096)] {
@@ -992,6 +1071,8 @@ for_each_unit! {
     past_the_highest_address
     access_under_two_rules
     protection_by_absolute_address
+    each_block_under_each_prefix
+    prefix_stays_inside
     access_to_the_end_of_a_unit
     access_within_a_4k_unit
     keys_that_match

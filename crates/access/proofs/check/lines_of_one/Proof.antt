@@ -1,4 +1,4 @@
--- `lines_of_one` gives the first of the three lines that applies. Each answer rewrites the tests that have been made, by what they came out as.
+-- `lines_of_one` gives the first of the two lines that applies. Each answer rewrites the tests that have been made, by what they came out as.
 -- Assumes nothing.
 use Rattle.machine.specs.Answers.{line, firstOf}
 use Rattle.access.specs.ByUnit.{linesOfOne}
@@ -12,37 +12,18 @@ returns : tie.Need-returns
 unfolding line firstOf linesOfOne
 returns c = rw (← c .before .outside .ensures, c .if1 .taken)
 
-absolute-outside-requires : tie.Need-absolute-outside-requires
-absolute-outside-requires c κs = tt
-
-returns-2 : tie.Need-returns-2
-unfolding line firstOf linesOfOne
-returns-2 c =
-    let absolute-tested = c .before in
-    let inside = absolute-tested .before in
-    rw (← inside .before .outside .ensures, inside .if1 .left, ← absolute-tested .absolute-outside .ensures, c .if2 .taken)
-
 forbidden-requires : tie.Need-forbidden-requires
 forbidden-requires c κs = tt
 
 refuse-requires : tie.Need-refuse-requires
 refuse-requires c κs = tt
 
-returns-3 : tie.Need-returns-3
+returns-2 : tie.Need-returns-2
 unfolding line firstOf linesOfOne
-returns-3 c =
+returns-2 c =
     let key-tested = c .before in
-    let absolute-inside = key-tested .before in
-    let absolute-tested = absolute-inside .before in
-    let inside = absolute-tested .before in
-    rw (
-      ← inside .before .outside .ensures,
-      inside .if1 .left,
-      ← absolute-tested .absolute-outside .ensures,
-      absolute-inside .if2 .left,
-      ← key-tested .forbidden .ensures,
-    )
-    (c .refuse .ensures)
+    let inside = key-tested .before in
+    rw (← inside .before .outside .ensures, inside .if1 .left, ← key-tested .forbidden .ensures) (c .refuse .ensures)
 
 pub lines-of-one-spec : {M : Type 1} → statement M
 lines-of-one-spec =
@@ -50,8 +31,6 @@ lines-of-one-spec =
     (tie.spec
     outside-requires
     returns
-    absolute-outside-requires
-    returns-2
     forbidden-requires
     refuse-requires
-    returns-3)
+    returns-2)

@@ -1,4 +1,4 @@
--- `lines_of_two` puts the three lines together as `linesOfTwo` does. Assumes nothing.
+-- `lines_of_two` puts the two lines together as `linesOfTwo` does. Assumes nothing.
 use Rattle.access.specs.ByUnit.{linesOfTwo}
 use Rattle.access.proofs.check.lines_of_two.Statement.{statement}
 use Rattle.access.proofs.check.lines_of_two.Tie as tie
@@ -12,52 +12,32 @@ outside-requires-2 c κs = tt
 two-tests-requires : tie.Need-two-tests-requires
 two-tests-requires c κs = tt
 
-absolute-outside-requires : tie.Need-absolute-outside-requires
-absolute-outside-requires c κs = tt
-
-absolute-outside-requires-2 : tie.Need-absolute-outside-requires-2
-absolute-outside-requires-2 c κs = tt
-
-two-tests-requires-2 : tie.Need-two-tests-requires-2
-two-tests-requires-2 c κs = tt
-
 forbidden-requires : tie.Need-forbidden-requires
 forbidden-requires c κs = tt
 
 forbidden-requires-2 : tie.Need-forbidden-requires-2
 forbidden-requires-2 c κs = tt
 
-two-tests-requires-3 : tie.Need-two-tests-requires-3
-two-tests-requires-3 c κs = tt
+two-tests-requires-2 : tie.Need-two-tests-requires-2
+two-tests-requires-2 c κs = tt
 
 first-of-requires : tie.Need-first-of-requires
 first-of-requires c κs = tt
 
-first-of-requires-2 : tie.Need-first-of-requires-2
-first-of-requires-2 c κs = tt
-
 returns : tie.Need-returns
 unfolding linesOfTwo
 returns c =
-    let lines-67-4 = c .before in
-    let line-4 = lines-67-4 .before in
+    let line-4 = c .before in
     let there-4 = line-4 .before in
     let here-4 = there-4 .before in
-    let line-67 = here-4 .before in
-    let there-67 = line-67 .before in
-    let here-67 = there-67 .before in
-    let line-5 = here-67 .before in
+    let line-5 = here-4 .before in
     let there-5 = line-5 .before in
     let here-5 = there-5 .before in
     rw (
-      c .first-of2 .ensures,
-      lines-67-4 .first-of .ensures,
-      line-4 .two-tests3 .ensures,
+      c .first-of .ensures,
+      line-4 .two-tests2 .ensures,
       there-4 .forbidden2 .ensures,
       here-4 .forbidden .ensures,
-      line-67 .two-tests2 .ensures,
-      there-67 .absolute-outside2 .ensures,
-      here-67 .absolute-outside .ensures,
       line-5 .two-tests .ensures,
       there-5 .outside2 .ensures,
       here-5 .outside .ensures,
@@ -70,12 +50,8 @@ lines-of-two-spec =
     outside-requires
     outside-requires-2
     two-tests-requires
-    absolute-outside-requires
-    absolute-outside-requires-2
-    two-tests-requires-2
     forbidden-requires
     forbidden-requires-2
-    two-tests-requires-3
+    two-tests-requires-2
     first-of-requires
-    first-of-requires-2
     returns)

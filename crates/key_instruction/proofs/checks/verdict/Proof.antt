@@ -1,6 +1,6 @@
 -- `verdict` is the lines over the decoded instruction: the groups, one after the other. Assumes nothing.
 use Rattle.key_instruction.specs.Decoded.{decodedVerdict}
-use Rattle.key_instruction.proofs.Lines.{nine-lines}
+use Rattle.key_instruction.proofs.Lines.{eight-lines}
 use borrow.Author.Needs.{needs}
 use Rattle.key_instruction.proofs.checks.verdict.Statement.{statement}
 use Rattle.key_instruction.proofs.checks.verdict.Tie as tie
@@ -14,8 +14,11 @@ operand-lines-requires c κs = search needs
 state-lines-requires : tie.Need-state-lines-requires
 state-lines-requires c κs = search needs
 
-address-lines-requires : tie.Need-address-lines-requires
-address-lines-requires c κs = search needs
+cast-refuse : tie.Need-cast-refuse
+cast-refuse c = search needs
+
+refuse-requires : tie.Need-refuse-requires
+refuse-requires c κs = search needs
 
 first-of-requires : tie.Need-first-of-requires
 first-of-requires c κs = search needs
@@ -32,18 +35,18 @@ returns c =
     let from-operand = c .before in
     let from-state = from-operand .before in
     let address = from-state .before in
-    let state = address .before in
+    let state = address .before .before in
     let operand = state .before in
     rw (
       c .first-of3 .ensures,
       from-operand .first-of2 .ensures,
       from-state .first-of .ensures,
-      address .address-lines .ensures,
+      address .refuse .ensures,
       state .state-lines .ensures,
       operand .operand-lines .ensures,
       operand .before .valid .ensures,
     )
-    (nine-lines _ _ _ _ _ _ _ _ _)
+    (eight-lines _ _ _ _ _ _ _ _)
 
 pub verdict-spec : {M : Type 1} → statement M
 verdict-spec =
@@ -52,7 +55,8 @@ verdict-spec =
     valid-requires
     operand-lines-requires
     state-lines-requires
-    address-lines-requires
+    cast-refuse
+    refuse-requires
     first-of-requires
     first-of-requires-2
     first-of-requires-3

@@ -1,11 +1,18 @@
--- An answer is read back from its packed number; operation numbers past the last. Assumes nothing.
+-- An answer is read back from its packed number; an operation number past the last is refused. Assumes nothing.
 use Prim.Native.Nat.{ℕ, _+_, _%_, _<_, _≤_}
 use mathlib.Core.Path.{_≡_, sym}
+use mathlib.Core.List.{List}
 use native.Mathlib.Omega.{arith}
-use lib.ListN.{List·getD-eq-default}
+use lib.ListN.{length, List·getD-eq-default}
+use Rattle.machine.specs.declared.Settings.{Settings}
+use Rattle.machine.specs.declared.Processor.{Processor}
 use Rattle.machine.specs.declared.AccessKind.the-variants.{Fetch}
 use Rattle.machine.specs.declared.Request.the-variants.{Access}
-use Rattle.machine.specs.Answers.{Values}
+use Rattle.machine.specs.declared.Reason.the-variants.{Operand}
+use Rattle.machine.specs.declared.Verdict.the-variants.{Stop}
+use Rattle.machine.specs.Answers.{Values, line, firstOf, firstLine}
+use Rattle.machine.specs.Table.{configuration, ownRecord, beforeProtection, verdict}
+use Rattle.machine.proofs.Verdicts.{first-assoc}
 use Rattle.host.specs.Boundary.{requests, requestOf, packed, numberIn, placeIn, wordIn}
 
 -- number, place and word, where the word has 32 bits; of the place, sixteen bits
@@ -18,5 +25,12 @@ pub five-more : (n m : ℕ) → n ≤ m → (m ≡ n → ⊥) → (m ≡ n + 1 �
 five-more n m h a b c d e = omega arith
 
 -- an operation number past the last stands for an access of length 0
-pub past-last : (operation a b : ℕ) → 10 ≤ operation → Access Fetch 0 0 ≡ requestOf operation a b
-past-last operation a b h = sym (List·getD-eq-default (requests a b) (Access Fetch 0 0) h)
+pub past-last : (operation a b : ℕ) → 10 ≤ operation → Access Fetch a 0 ≡ requestOf operation a b
+past-last operation a b h = sym (List·getD-eq-default (requests a b) (Access Fetch a 0) h)
+
+-- so it is refused with 66 where lines 64 and 65 let it pass, whatever its operands
+pub past-last-refused : (s : Settings) (storageLength : ℕ) (keys : List ℕ) (p : Processor) (operation a b bufferLength : ℕ) → 10 ≤ operation
+    → verdict s storageLength keys p (requestOf operation a b) bufferLength
+    ≡ firstOf (configuration s storageLength (length keys)) (firstOf (ownRecord storageLength p) (Stop Operand 0))
+unfolding line firstOf firstLine beforeProtection verdict
+past-last-refused s storageLength keys p operation a b bufferLength h = rw (← past-last operation a b h) (simp first-assoc)

@@ -79,9 +79,9 @@ requests first second =
     ∷ Prefix StorePrefix
     ∷ []
 
--- any other number is taken for an access of length 0, which line 66 refuses
+-- any other number is taken for an access of length 0, which line 66 refuses wherever it is
 abbrev pub requestOf : ℕ → ℕ → ℕ → Request
-requestOf operation first second = getD (requests first second) operation (Access Fetch 0 0)
+requestOf operation first second = getD (requests first second) operation (Access Fetch first 0)
 
 -- an answer in one number: the word, the place in sixteen bits from 2^32 on, the number from 2^48 on
 abbrev pub packed : Values → ℕ

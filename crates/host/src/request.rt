@@ -46,7 +46,7 @@ pub(crate) fn request_of(operation: u32, first: u32, second: u32) -> Request
         7 => Request::Key(KeyInstruction::Rrbe { r2: second }),
         8 => Request::Prefix(PrefixInstruction::SetPrefix { word: first }),
         9 => Request::Prefix(PrefixInstruction::StorePrefix),
-        _ => access_of(AccessKind::Fetch, 0, 0),
+        _ => access_of(AccessKind::Fetch, first, 0),
     }
 }
 

@@ -218,7 +218,7 @@ pub const fn decode_request(operation: u32, first: u32, second: u32) -> Request 
         RRBE => Request::Key(KeyInstruction::Rrbe { r2: second }),
         SET_PREFIX => Request::Prefix(PrefixInstruction::SetPrefix { word: first }),
         STORE_PREFIX => Request::Prefix(PrefixInstruction::StorePrefix),
-        _ => Request::fetch(0, 0),
+        _ => Request::fetch(first, 0),
     }
 }
 

@@ -118,7 +118,7 @@ fn requests_have_operation_and_two_operands() {
         assert_eq!(decode_request(operation, first, second), request);
     }
     for operation in [10, u32::MAX] {
-        assert_eq!(decode_request(operation, r1, 4), Request::fetch(0, 0));
+        assert_eq!(decode_request(operation, r1, 4), Request::fetch(r1, 0));
     }
 }
 

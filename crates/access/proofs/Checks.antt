@@ -24,7 +24,7 @@ use Rattle.machine.specs.Numbers.{unitOf, add24}
 use Rattle.machine.specs.Answers.{stops, line, firstOf, firstByte, firstLine}
 use Rattle.machine.specs.Prefixing.{byteAddress}
 use Rattle.machine.specs.Protection.{lowProtected, forbidden}
-use Rattle.machine.specs.Table.{configuration, ownRecord, addressing, protection, beforeProtection, verdict}
+use Rattle.machine.specs.Table.{configuration, addressing, protection, beforeProtection, verdict}
 use Rattle.machine.proofs.Verdicts.{neither, line-clear, first-clear, first-of-clear, first-none, first-assoc, skipped, first-of-stop, scan-on}
 use Rattle.machine.proofs.AbsoluteAddress.{configured}
 use Rattle.machine.proofs.BeforeProtection.{operands-passed}
@@ -95,9 +95,9 @@ module _ (s : Settings) (storageLength : ℕ) (keys : List ℕ) (p : Processor) 
 
   -- where none does, the other lines decide
   module _ (first : firsts ≡ Clear) where
-    machine-passed : (configuration s storageLength (length keys) ≡ Clear) × (ownRecord storageLength p ≡ Clear)
+    lengths : configuration s storageLength (length keys) ≡ Clear
     unfolding firstLines
-    machine-passed = first-clear _ _ (first-clear _ _ first .0)
+    lengths = first-clear _ _ (first-clear _ _ first .0) .0
 
     operands : (0 < count) × (count ≤ 256) × (count ≤ bufferLength)
     unfolding firstLines
@@ -111,7 +111,7 @@ module _ (s : Settings) (storageLength : ℕ) (keys : List ℕ) (p : Processor) 
     test-4 i = forbidden kind p (add24 address i) (getD keys (unitOf s (byteAddress p address i)) 0)
 
     steady-5 : Steady s address test-5
-    steady-5 = outside-steady s address storageLength (configured s storageLength (length keys) p (machine-passed .0) (machine-passed .1) .whole)
+    steady-5 = outside-steady s address storageLength (configured s storageLength (length keys) lengths .whole)
 
     steady-4 : Steady s address test-4
     steady-4 = forbidden-steady s address keys p kind

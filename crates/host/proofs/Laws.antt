@@ -24,7 +24,7 @@ answer-is-read v w = (omega arith, omega arith, omega arith)
 pub five-more : (n m : ℕ) → n ≤ m → (m ≡ n → ⊥) → (m ≡ n + 1 → ⊥) → (m ≡ n + 2 → ⊥) → (m ≡ n + 3 → ⊥) → (m ≡ n + 4 → ⊥) → n + 5 ≤ m
 five-more n m h a b c d e = omega arith
 
--- an operation number past the last stands for an access of length 0
+-- an operation number past the last stands for an access of length 0 at the address given
 pub past-last : (operation a b : ℕ) → 10 ≤ operation → Access Fetch a 0 ≡ requestOf operation a b
 past-last operation a b h = sym (List·getD-eq-default (requests a b) (Access Fetch a 0) h)
 

@@ -79,7 +79,7 @@ requests first second =
     ∷ Prefix StorePrefix
     ∷ []
 
--- any other number is taken for an access of length 0, which line 66 refuses wherever it is
+-- any other number is taken for an access of length 0, which line 66 refuses at any address
 abbrev pub requestOf : ℕ → ℕ → ℕ → Request
 requestOf operation first second = getD (requests first second) operation (Access Fetch first 0)
 

@@ -19,7 +19,8 @@ fn access_of(kind: AccessKind, address: u32, count: u32) -> Request
     }
 }
 
-// The request with this operation number and operands.
+// The request with this operation number and operands. Any other number is an access of length 0; that it is at `first` is for speed
+// (docs/BENCHMARK.md).
 pub(crate) fn request_of(operation: u32, first: u32, second: u32) -> Request
     ensures { λ r. ⌜ r ≡ requestOf operation first second ⌝ }
 {

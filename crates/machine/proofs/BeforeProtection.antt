@@ -73,8 +73,8 @@ module _ (s : Settings) (storageLength keyLength : ℕ) (p : Processor) (kind : 
   lines : Cleared s storageLength keyLength p (Access kind address count) bufferLength
   lines = cleared s storageLength keyLength p (Access kind address count) bufferLength clear
 
-  known : Configured s storageLength keyLength p
-  known = configured s storageLength keyLength p (lines .lengths) (lines .own)
+  known : Configured s storageLength keyLength
+  known = configured s storageLength keyLength (lines .lengths)
 
   pub access-cleared : AccessCleared storageLength p address count bufferLength
   access-cleared =

@@ -1,13 +1,13 @@
 -- A record that line 65 lets pass stays one, whatever is asked: SET PREFIX installs a block inside storage only, and RRB and RRBE leave a
 -- condition code of 0 to 3. The proof goes by the verdict and the kind of request.
 -- Assumes nothing.
-use Prim.Native.Nat.{ℕ, _%_, _<_, _≤_}
+use Prim.Native.Nat.{ℕ, _≤_}
 use mathlib.Core.Path.{_≡_}
 use mathlib.Core.Bool.{Bool}
 use mathlib.Core.List.{List}
 use native.Mathlib.Omega.{arith}
 use lib.ListN.{length}
-use borrow.Author.Tests.{leb-true, leb-false, eqb-true, ltb-true, le-leb, eq-eqb, lt-ltb}
+use borrow.Author.Tests.{leb-false}
 use Rattle.machine.specs.declared.Settings.{Settings}
 use Rattle.machine.specs.declared.Processor.{Processor}
 use Rattle.machine.specs.declared.KeyOperation.{KeyOperation}
@@ -15,35 +15,16 @@ use Rattle.machine.specs.declared.KeyOperation.the-variants.{Insert, Set
 use Rattle.machine.specs.declared.PrefixInstruction.the-variants.{SetPrefix, StorePrefix}
 use Rattle.machine.specs.declared.Request.{Request}
 use Rattle.machine.specs.declared.Request.the-variants.{Access, Key, Prefix}
-use Rattle.machine.specs.declared.Reason.the-variants.{Record}
 use Rattle.machine.specs.declared.Verdict.the-variants.{Clear}
 use Rattle.machine.specs.Key.{codeOf}
 use Rattle.machine.specs.Prefixing.{prefixOf}
 use Rattle.machine.specs.KeyInstructions.{operation, twoKeys, firstUnit, codeLeft}
 use Rattle.machine.specs.Table.{ownRecord, addressing, verdict}
 use Rattle.machine.specs.Step.{withCode, withPrefix, completed, step}
-use Rattle.machine.proofs.Verdicts.{both, line-clear, line-false}
-use Rattle.machine.proofs.AbsoluteAddress.{record-passed}
+use Rattle.machine.proofs.Verdicts.{line-clear}
+use Rattle.machine.proofs.AbsoluteAddress.{Passed, passed, passes}
 use Rattle.machine.proofs.BeforeProtection.{cleared, table-clear}
 use Rattle.machine.proofs.Requests.{by-verdict, completed-cleared}
-
--- what line 65 lets pass, in numbers
-record Passed (storageLength : ℕ) (p : Processor) : Type 0 where
-  key : p .«psw_key» ≤ 15
-  code : p .code ≤ 3
-  block : p .prefix % 4096 ≡ 0
-  inside : p .prefix < storageLength
-
-passed : (storageLength : ℕ) (p : Processor) → ownRecord storageLength p ≡ Clear → Passed storageLength p
-passed storageLength p l65 =
-    let (first, below) = both _ _ (record-passed storageLength p l65) in
-    let (second, whole) = both _ _ first in
-    let (key, code) = both _ _ second in
-    record { key = leb-true _ _ key; code = leb-true _ _ code; block = eqb-true _ _ whole; inside = ltb-true _ _ below }
-
-passes : (storageLength : ℕ) (p : Processor) → Passed storageLength p → ownRecord storageLength p ≡ Clear
-passes storageLength p it =
-    line-false Record _ (rw (le-leb _ _ (it .key), le-leb _ _ (it .code), eq-eqb _ _ (it .block), lt-ltb _ _ (it .inside)))
 
 -- the condition code that an operation on keys leaves
 code-small : (keys : List ℕ) (u : ℕ) (two : Bool) (o : KeyOperation) (c : ℕ) → c ≤ 3 → codeLeft keys u two o c ≤ 3
@@ -78,8 +59,8 @@ module _ (s : Settings) (storage keys : List ℕ) (p : Processor) (buffer : List
           (record { key = before .key; code = before .code; block = omega arith; inside = omega arith })
 
   -- a completed SET PREFIX leaves a record that line 65 lets pass
-  pub set-prefix-passes-65 : (word : ℕ) → let o = step s storage keys p (Prefix (SetPrefix word)) buffer in
+  pub set-prefix-leaves-valid-record : (word : ℕ) → let o = step s storage keys p (Prefix (SetPrefix word)) buffer in
       o .answer .number ≡ 0 → ownRecord (length storage) (o .processor) ≡ Clear
-  set-prefix-passes-65 word done =
+  set-prefix-leaves-valid-record word done =
       record-stays-valid (Prefix (SetPrefix word))
       (cleared _ _ _ _ _ _ (completed-cleared s storage keys p (Prefix (SetPrefix word)) buffer done) .own)

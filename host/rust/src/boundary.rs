@@ -192,7 +192,7 @@ pub const fn encode_request(request: &Request) -> (u32, u32, u32) {
 }
 
 /// The request from operation number and operands. A number that no operation has is
-/// taken for a fetch of count 0, which is refused with [`Number::Operand`].
+/// taken for a fetch of count 0 at `first`, which is refused with [`Number::Operand`].
 #[inline]
 pub const fn decode_request(operation: u32, first: u32, second: u32) -> Request {
     match operation {

@@ -131,6 +131,7 @@ fn answers_are_packed() {
     };
     assert_eq!(encode_answer(answer), 0x0013_0102_8899_AABB);
     assert_eq!(decode_answer(0x0013_0102_8899_AABB), Some(answer));
+    // 3 and 67.
     for unknown in [0x0003_0000_0000_0000, 0x0043_0000_0000_0000] {
         assert_eq!(decode_answer(unknown), None);
     }

@@ -508,54 +508,48 @@ fn protection_by_absolute_address<U: Unit>() {
     );
 }
 
-/// Under each prefix inside storage, each real block is a block of storage: its last
-/// bytes are fetched and the keys of its two halves inserted.
+/// Under each prefix inside storage, each real block is a block of storage.
 fn each_block_under_each_prefix<U: Unit>() {
-    for (four_k, blocks) in [false, true]
-        .into_iter()
-        .flat_map(|four_k| (1..5).map(move |blocks| (four_k, blocks)))
-    {
-        let mut before = with_storage(blocks * 4096);
-        before.settings.four_k = four_k;
-        before.keys = (0..before.settings.key_count(blocks * 4096) as u8)
-            .map(|unit| unit << 4)
-            .collect();
-        before.processors[0].key_control = true;
-        for (prefix, real) in (0..blocks).flat_map(|p| (0..blocks).map(move |r| (p, r))) {
-            before.processors[0].prefix = prefix as u32 * 4096;
-            let block = match real {
-                0 => prefix,
-                _ if real == prefix => 0,
-                _ => real,
-            };
-            let mut lent = before.clone();
-            let mut bytes = [0; 256];
-            let last = Request::fetch(real as u32 * 4096 + 3840, 256);
-            assert_eq!(
-                lent.request::<U>(0, &last, &mut bytes),
-                Answer::completed(0)
-            );
-            assert_eq!(
-                bytes.to_vec(),
-                (0..256)
-                    .map(|i| content(block * 4096 + 3840 + i))
-                    .collect::<Vec<_>>()
-            );
-            for half in [0, 2048] {
-                let key = before.keys[(block * 4096 + half) / before.settings.key_unit()];
-                let r2 = (real * 4096 + half) as u32;
-                assert_eq!(
-                    answer::<U>(&before, 0, isk(0, r2), 0),
-                    Answer::completed(u32::from(key))
-                );
+    for four_k in [false, true] {
+        for blocks in 1..5 {
+            let mut before = with_storage(blocks * 4096);
+            before.settings.four_k = four_k;
+            before.keys = (0..before.settings.key_count(blocks * 4096) as u8)
+                .map(|unit| unit << 4)
+                .collect();
+            before.processors[0].key_control = true;
+            for prefix in 0..blocks {
+                before.processors[0].prefix = prefix as u32 * 4096;
+                for real in 0..blocks {
+                    let block = match real {
+                        0 => prefix,
+                        _ if real == prefix => 0,
+                        _ => real,
+                    };
+                    reaches_block::<U>(&before, real * 4096, block * 4096);
+                }
             }
-            let first = before.keys[block * 4096 / before.settings.key_unit()];
-            assert_eq!(
-                answer::<U>(&before, 0, iske(0, real as u32 * 4096), 0),
-                Answer::completed(u32::from(first))
-            );
         }
     }
+}
+
+/// The real block at this address is the absolute block at that one: its last bytes are
+/// fetched, and the keys of its halves and of the whole inserted.
+fn reaches_block<U: Unit>(before: &Lent, real: usize, block: usize) {
+    let mut bytes = [0; 256];
+    let last = Request::fetch(real as u32 + 3840, 256);
+    let given = before.clone().request::<U>(0, &last, &mut bytes);
+    assert_eq!(given, Answer::completed(0));
+    for (index, byte) in bytes.into_iter().enumerate() {
+        assert_eq!(byte, content(block + 3840 + index));
+    }
+    let key_at = |address| u32::from(before.keys[address / before.settings.key_unit()]);
+    for half in [0, 2048] {
+        let given = answer::<U>(before, 0, isk(0, (real + half) as u32), 0);
+        assert_eq!(given, Answer::completed(key_at(block + half)));
+    }
+    let given = answer::<U>(before, 0, iske(0, real as u32), 0);
+    assert_eq!(given, Answer::completed(key_at(block)));
 }
 
 /// A prefix at the end of storage is refused with 65 whatever is asked, and SET PREFIX

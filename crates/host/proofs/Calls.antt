@@ -16,7 +16,7 @@ use Rattle.machine.specs.Lists.{written}
 use Rattle.machine.specs.Numbers.{recordValid}
 use Rattle.machine.specs.Answers.{numberOf, values}
 use Rattle.machine.specs.Step.{withCode, withPrefix, outcome, step}
-use Rattle.machine.proofs.AbsoluteAddress.{record-passed}
+use Rattle.machine.proofs.AbsoluteAddress.{record-tested}
 use Rattle.machine.proofs.BeforeProtection.{cleared}
 use Rattle.machine.proofs.Conditions.{answer-in-table}
 use Rattle.machine.proofs.Requests.{refused-changes-nothing, completed-cleared, controls-stay}
@@ -53,7 +53,7 @@ module _ (bytes : List ℕ) (s : Settings) (storage keys : List ℕ) (at : ℕ) 
       own : recordValid (length storage) (recordAt bytes at) ≡ true
       own =
           subst (λ x. recordValid (length storage) x ≡ true) read
-          (record-passed (length storage) p (cleared _ _ _ _ _ _ (completed-cleared s storage keys p r buffer (sym number-same ∙ zero)) .own))
+          (record-tested (length storage) p (cleared _ _ _ _ _ _ (completed-cleared s storage keys p r buffer (sym number-same ∙ zero)) .own))
 
       held : Holds bytes at (recordAt bytes at)
       held = valid-record-is-written bytes at (length storage) byte own

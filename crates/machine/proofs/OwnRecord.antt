@@ -22,7 +22,7 @@ use Rattle.machine.specs.KeyInstructions.{operation, twoKeys, firstUnit,
 use Rattle.machine.specs.Table.{ownRecord, addressing, verdict}
 use Rattle.machine.specs.Step.{withCode, withPrefix, completed, step}
 use Rattle.machine.proofs.Verdicts.{line-clear}
-use Rattle.machine.proofs.AbsoluteAddress.{Passed, passed, passes}
+use Rattle.machine.proofs.AbsoluteAddress.{ValidRecord, record-valid, record-passes}
 use Rattle.machine.proofs.BeforeProtection.{cleared, table-clear}
 use Rattle.machine.proofs.Requests.{by-verdict, completed-cleared}
 
@@ -41,8 +41,8 @@ module _ (s : Settings) (storage keys : List ℕ) (p : Processor) (buffer : List
   record-stays-valid r l65 =
       by-verdict s storage keys p r buffer (λ o. ownRecord (length storage) (o .processor) ≡ Clear) (λ reason place e. l65) (λ e. done r e)
     where
-      before : Passed (length storage) p
-      before = passed (length storage) p l65
+      before : ValidRecord (length storage) p
+      before = record-valid (length storage) p l65
 
       done : (r : Request) → verdict s (length storage) keys p r (length buffer) ≡ Clear
           → ownRecord (length storage) (completed s storage keys p r buffer .processor) ≡ Clear
@@ -50,12 +50,12 @@ module _ (s : Settings) (storage keys : List ℕ) (p : Processor) (buffer : List
       done (Key i) e =
           let left = codeLeft keys (firstUnit s p i) (twoKeys s i) (operation i) (p .code) in
           let small : left ≤ 3 = code-small keys _ _ (operation i) (p .code) (before .code) in
-          passes (length storage) (withCode p left) (record { key = before .key; code = small; block = before .block; inside = before .inside })
+          record-passes (length storage) (withCode p left) (record { key = before .key; code = small; block = before .block; inside = before .inside })
       done (Prefix StorePrefix) e = l65
       done (Prefix (SetPrefix word)) e =
           let lines = cleared _ _ _ _ _ _ (table-clear s (length storage) keys p (Prefix (SetPrefix word)) (length buffer) e) in
           let below = leb-false (length storage) (prefixOf word) (line-clear _ _ (lines .inside)) in
-          passes (length storage) (withPrefix p (prefixOf word))
+          record-passes (length storage) (withPrefix p (prefixOf word))
           (record { key = before .key; code = before .code; block = omega arith; inside = omega arith })
 
   -- a completed SET PREFIX leaves a record that line 65 lets pass

@@ -55,11 +55,12 @@ static uint32_t number(uint32_t settings, uint32_t operation, uint32_t first, ui
 
 static void answers(void)
 {
-    uint64_t answer = UINT64_C(0x001301028899AABB);
+    uint64_t answer = UINT64_C(0x001303FE8899AABB);
 
     CHECK(storage_unit_number(answer) == STORAGE_UNIT_NUMBER_SPECIAL_OPERATION);
-    CHECK(storage_unit_place(answer) == 0x0102);
+    CHECK(storage_unit_place(answer) == 0xFE);
     CHECK(storage_unit_word(answer) == 0x8899AABB);
+    CHECK(storage_unit_rule(answer) == STORAGE_UNIT_RULE_UNCHANGED);
 }
 
 static void sizes(void)
@@ -142,6 +143,28 @@ static void operations(void)
     CHECK(completed(STORAGE_UNIT_STORE_PREFIX, 0, 0) == 0x1000);
 }
 
+/* The rule of a request with 2K units and the extensions. */
+static uint32_t rule(uint32_t operation, uint32_t first, uint32_t second)
+{
+    return storage_unit_rule(request(STORAGE_UNIT_EXTENSIONS, operation, first, second));
+}
+
+/* Each rule that is given. Number, place and word are read beside it as ever. */
+static void rules(void)
+{
+    start();
+    CHECK(rule(STORAGE_UNIT_FETCH, 4, 1) == STORAGE_UNIT_RULE_ZERO);
+    CHECK(rule(STORAGE_UNIT_FETCH, 4096, 1) == STORAGE_UNIT_RULE_UNCHANGED);
+    CHECK(rule(STORAGE_UNIT_SET_PREFIX, 4096, 0) == STORAGE_UNIT_RULE_NONE);
+    CHECK(rule(STORAGE_UNIT_STORE_PREFIX, 0, 0) == STORAGE_UNIT_RULE_NONE);
+    CHECK(rule(STORAGE_UNIT_STORE, 4095, 2) == STORAGE_UNIT_RULE_ZERO);
+    CHECK(rule(STORAGE_UNIT_STORE, 4096, 2) == STORAGE_UNIT_RULE_PREFIX);
+    CHECK(rule(STORAGE_UNIT_RRB, 0, 0xFFF) == STORAGE_UNIT_RULE_ZERO);
+    CHECK(rule(STORAGE_UNIT_ISKE, 0, 0x80001FFF) == STORAGE_UNIT_RULE_PREFIX);
+    CHECK(rule(STORAGE_UNIT_FETCH, STORAGE_LENGTH - 1, 2) == STORAGE_UNIT_RULE_NONE);
+    CHECK(completed(STORAGE_UNIT_ISKE, 0x12345678, 0x1000) == 0x12345606);
+}
+
 /* Each number that is given. */
 static void numbers(void)
 {
@@ -187,6 +210,7 @@ int main(void)
     lengths();
     record_fields();
     operations();
+    rules();
     numbers();
     return failures == 0 ? 0 : 1;
 }

@@ -79,6 +79,16 @@ extern "C" {
 #define STORAGE_UNIT_NUMBER_PROTECTION        4u
 #define STORAGE_UNIT_NUMBER_COMPLETED         0u
 
+/*
+ * ---- Rules of prefixing, as the manual numbers them. Bits 1-19 of an address are the number of
+ * its 4K block. With prefix zero, addresses below 4096 go by the first.
+ */
+
+#define STORAGE_UNIT_RULE_NONE      0u /* refused, SET PREFIX, STORE PREFIX */
+#define STORAGE_UNIT_RULE_ZERO      1u /* bits 1-19 zero: replaced by the prefix's */
+#define STORAGE_UNIT_RULE_PREFIX    2u /* bits 1-19 equal to the prefix's: replaced by zeros */
+#define STORAGE_UNIT_RULE_UNCHANGED 3u /* otherwise: unchanged */
+
 /* ---- Sizes in bytes. */
 
 #define STORAGE_UNIT_STORAGE_MULTIPLE 4096u /* storage is a multiple of this, and not empty */
@@ -139,9 +149,9 @@ extern "C" {
  *                   the access, and the rest stays as it is. A shorter buffer: 66. Other
  *                   operations do not use it, and its length may be 0.
  *
- * Returns number, place and word in one value, for storage_unit_number, storage_unit_place and
- * storage_unit_word to take apart. Test the number, not the value: a completed request with a word
- * is not 0 as a whole.
+ * Returns number, place, word and rule in one value, for storage_unit_number, storage_unit_place,
+ * storage_unit_word and storage_unit_rule to take apart. Test the number, not the value: the value
+ * of a completed request is not 0 as a whole.
  *
  * With any number but STORAGE_UNIT_NUMBER_COMPLETED, no byte of storage, keys, records and buffer
  * has changed. When completed, a fetch or store has also set the reference bit, a store the change
@@ -176,13 +186,24 @@ static inline uint32_t storage_unit_number(uint64_t answer)
  */
 static inline uint32_t storage_unit_place(uint64_t answer)
 {
-    return (uint32_t)(answer >> 32) & 0xFFFFu;
+    return (uint32_t)(answer >> 32) & 0xFFu;
 }
 
 /* The word of an answer: the result of a completed ISK, ISKE or STORE PREFIX, else 0. */
 static inline uint32_t storage_unit_word(uint64_t answer)
 {
     return (uint32_t)(answer & 0xFFFFFFFFu);
+}
+
+/*
+ * The rule of an answer: which rule of prefixing gave the absolute address of the first address
+ * that a completed fetch, store or key instruction names, which is that of the first byte of an
+ * access, or of the block of a key instruction. One of STORAGE_UNIT_RULE_..., and
+ * STORAGE_UNIT_RULE_NONE for every other answer.
+ */
+static inline uint32_t storage_unit_rule(uint64_t answer)
+{
+    return (uint32_t)(answer >> 40) & 0xFFu;
 }
 
 /* The number of storage bytes that share a key. */

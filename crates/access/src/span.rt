@@ -2,8 +2,8 @@
 use machine::Processor;
 use machine::Settings;
 use machine::numbers::unit_of;
-use prefixing::absolute;
 use prefixing::add24;
+use prefixing::prefixed;
 ghost use mathlib.Core.Path.{_≡_};
 ghost use lib.ListN.{getD};
 ghost use Rattle.access.specs.ByUnit.{toUnitEnd, spanAt};
@@ -14,6 +14,8 @@ pub(crate) struct Span {
     pub(crate) real: u32,
     // The absolute address of its first byte.
     pub(crate) absolute: u32,
+    // The rule that prefixed it.
+    pub(crate) rule: u8,
     // The unit.
     pub(crate) unit: usize,
     // The unit's key.
@@ -32,12 +34,13 @@ pub(crate) fn span_at(settings: Settings, keys: &[u8], p: Processor, address: u3
     ensures { λ r. ⌜ r ≡ spanAt settings (now (keys .entry)) p address i ⌝ }
 {
     let real = add24(address, i);
-    let absolute = absolute(p.prefix, real);
-    let unit = unit_of(settings, absolute as usize);
+    let there = prefixed(p.prefix, real);
+    let unit = unit_of(settings, there.absolute as usize);
     let key = key_of_unit(keys, unit);
     Span {
         real,
-        absolute,
+        absolute: there.absolute,
+        rule: there.rule,
         unit,
         key,
     }

@@ -13,12 +13,12 @@ use Rattle.machine.specs.declared.Verdict.the-variants.{Stop}
 use Rattle.machine.specs.Answers.{Values, line, firstOf, firstLine}
 use Rattle.machine.specs.Table.{configuration, ownRecord, beforeProtection, verdict}
 use Rattle.machine.proofs.Verdicts.{first-assoc}
-use Rattle.host.specs.Boundary.{requests, requestOf, packed, numberIn, placeIn, wordIn}
+use Rattle.host.specs.Boundary.{requests, requestOf, packed, numberIn, placeIn, wordIn, ruleIn}
 
--- number, place and word, where the word has 32 bits; of the place, sixteen bits
-pub answer-is-read : (v : Values) → v .word < 4294967296
-    → (numberIn (packed v) ≡ v .number) × (placeIn (packed v) ≡ v .place % 65536) × (wordIn (packed v) ≡ v .word)
-answer-is-read v w = (omega arith, omega arith, omega arith)
+-- number, place, word and rule, where the word has 32 bits and the rule eight; of the place, eight bits
+pub answer-is-read : (v : Values) → v .word < 4294967296 → v .rule < 256
+    → (numberIn (packed v) ≡ v .number) × (placeIn (packed v) ≡ v .place % 256) × (wordIn (packed v) ≡ v .word) × (ruleIn (packed v) ≡ v .rule)
+answer-is-read v w r = (omega arith, omega arith, omega arith, omega arith)
 
 -- a number that is at least n and none of the five from n on
 pub five-more : (n m : ℕ) → n ≤ m → (m ≡ n → ⊥) → (m ≡ n + 1 → ⊥) → (m ≡ n + 2 → ⊥) → (m ≡ n + 3 → ⊥) → (m ≡ n + 4 → ⊥) → n + 5 ≤ m

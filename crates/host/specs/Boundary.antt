@@ -83,19 +83,22 @@ requests first second =
 abbrev pub requestOf : ℕ → ℕ → ℕ → Request
 requestOf operation first second = getD (requests first second) operation (Access Fetch first 0)
 
--- an answer in one number: the word, the place in sixteen bits from 2^32 on, the number from 2^48 on
+-- an answer in one number: the word, the place in eight bits from 2^32 on, the rule in eight bits from 2^40 on, the number from 2^48 on
 abbrev pub packed : Values → ℕ
-packed v = v .number * 281474976710656 + v .place % 65536 * 4294967296 + v .word
+packed v = v .number * 281474976710656 + v .rule * 1099511627776 + v .place % 256 * 4294967296 + v .word
 
--- number, place and word of an answer in one number
+-- number, place, word and rule of an answer in one number
 abbrev pub numberIn : ℕ → ℕ
 numberIn answer = answer / 281474976710656
 
 abbrev pub placeIn : ℕ → ℕ
-placeIn answer = answer / 4294967296 % 65536
+placeIn answer = answer / 4294967296 % 256
 
 abbrev pub wordIn : ℕ → ℕ
 wordIn answer = answer % 4294967296
+
+abbrev pub ruleIn : ℕ → ℕ
+ruleIn answer = answer / 1099511627776 % 256
 
 -- the result is the answer in one number, and the answer's own number can be read from it
 abbrev pub Packs : ℕ → Answer → Type 0
@@ -124,7 +127,7 @@ callServed records at o =
 
 -- a refusal changes nothing
 abbrev pub callRefused : Verdict → List ℕ → List ℕ → List ℕ → List ℕ → CallOutcome
-callRefused v storage keys records buffer = callOutcome (packed (values (answerOf v 0))) storage keys records buffer
+callRefused v storage keys records buffer = callOutcome (packed (values (answerOf v 0 0))) storage keys records buffer
 
 -- a call with these settings: the step by the record of the processor, eight bytes for each. Where the number is not 0 or 1, or there aren't
 -- sixteen bytes of records, there is no record

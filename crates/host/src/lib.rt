@@ -52,7 +52,7 @@ fn serve_bytes(
 // One request for one processor. `settings`: 1 the 4K facility, 2 the extensions. `records`: sixteen bytes, eight for each processor.
 // `operation`: 0 fetch, 1 store, 2 ISK, 3 SSK, 4 RRB, 5 ISKE, 6 SSKE, 7 RRBE, 8 SET PREFIX, 9 STORE PREFIX. `first`: the real address of an
 // access, R1, or the word of SET PREFIX. `second`: the length of an access, R2, or the address of RRB. The result has the word in bits 0 to
-// 31 from the right, the place in bits 32 to 47 and the number in bits 48 to 63.
+// 31 from the right, the place in bits 32 to 39, the rule in bits 40 to 47 and the number in bits 48 to 63.
 #[no_mangle]
 pub extern "C" fn storage_unit_request(
     settings: u32,
@@ -92,6 +92,6 @@ pub extern "C" fn storage_unit_request(
         )
     } else {
         let refused = without_record(machine, storage.len(), keys.len());
-        pack(answer_of(refused, 0))
+        pack(answer_of(refused, 0, 0))
     }
 }

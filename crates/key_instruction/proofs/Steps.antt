@@ -16,7 +16,7 @@ use Rattle.machine.specs.declared.Verdict.{Verdict}
 use Rattle.machine.specs.declared.Verdict.the-variants.{Clear}
 use Rattle.machine.specs.Numbers.{unitOf}
 use Rattle.machine.specs.Answers.{answerOf, stops}
-use Rattle.machine.specs.Prefixing.{absolute}
+use Rattle.machine.specs.Prefixing.{absolute, rule}
 use Rattle.machine.specs.KeyInstructions.{keyCount, twoKeys, wordGiven, keysLeft, codeLeft}
 use Rattle.machine.specs.Table.{addressing, beforeProtection}
 use Rattle.machine.specs.Step.{withCode, outcome, completed, step}
@@ -63,11 +63,11 @@ module _ (s : Settings) (storage keys : List ℕ) (p : Processor) (i : KeyInstru
   instruction-found : v ≡ beforeProtection s (length storage) (length keys) p (Key i) 0
   instruction-found = lines-found s _ _ p i fields found
 
-  pub refused : {b : Bool} → b ≡ stops v → b ≡ true → outcome (answerOf v 0) storage keys p [] ≡ step s storage keys p (Key i) []
-  refused asked e = refused-instruction s storage keys p (Key i) tt instruction-found 0 (sym asked ∙ e)
+  pub refused : {b : Bool} → b ≡ stops v → b ≡ true → outcome (answerOf v 0 0) storage keys p [] ≡ step s storage keys p (Key i) []
+  refused asked e = refused-instruction s storage keys p (Key i) tt instruction-found 0 0 (sym asked ∙ e)
 
   pub operated : {b : Bool} → b ≡ stops v → b ≡ false
-      → outcome (Completed (wordGiven keys (blockUnit s p d) (onTwo s d) (d .operation)))
+      → outcome (Completed (wordGiven keys (blockUnit s p d) (onTwo s d) (d .operation)) (rule (p .prefix) (d .block)))
       storage
       (keysLeft keys (blockUnit s p d) (onTwo s d) (d .operation))
       (withCode p (codeLeft keys (blockUnit s p d) (onTwo s d) (d .operation) (p .code)))

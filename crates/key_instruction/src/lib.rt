@@ -9,11 +9,10 @@ use machine::Settings;
 use machine::answers::answer_of;
 use machine::answers::stops;
 use machine::numbers::unit_of;
+use prefixing::prefixed;
 ghost use mathlib.Core.Path.{_≡_};
 ghost use mathlib.Core.List.{[]};
 ghost use lib.ListN.{length};
-ghost use Rattle.machine.specs.Numbers.{unitOf};
-ghost use Rattle.machine.specs.Prefixing.{absolute};
 ghost use Rattle.machine.specs.KeyInstructions.{wordGiven, keysLeft, codeLeft};
 ghost use Rattle.machine.specs.Step.{withCode, outcome, step};
 ghost use Rattle.key_instruction.specs.Units.{Inside};
@@ -22,17 +21,17 @@ mod checks;
 mod decode;
 mod operations;
 
-// The key unit of a block with this real address, for a processor with the record p.
-fn first_unit(settings: Settings, p: Processor, block: u32) -> usize
-    ensures { λ r. ⌜ r ≡ unitOf settings (absolute (p .prefix) block) ⌝ }
-{
-    unit_of(settings, prefixing::absolute(p.prefix, block) as usize)
-}
-
-// An operation on the keys of unit u and, if on two, of unit u + 1, for a processor with the record p.
-fn perform(keys: &mut [u8], p: Processor, u: usize, two: bool, operation: KeyOperation) -> Served
+// An operation on the keys of unit u and, if on two, of unit u + 1, for a processor with the record p. The rule is what its answer carries.
+fn perform(
+    keys: &mut [u8],
+    p: Processor,
+    u: usize,
+    two: bool,
+    operation: KeyOperation,
+    rule: u8,
+) -> Served
     requires { ⌜ Inside (length (now keys)) u two ⌝ }
-    ensures { λ r. ⌜ r .answer ≡ Answer.Completed (wordGiven (now (keys .entry)) u two operation) ⌝ }
+    ensures { λ r. ⌜ r .answer ≡ Answer.Completed (wordGiven (now (keys .entry)) u two operation) rule ⌝ }
     ensures { λ r. ⌜ now (keys .exit) ≡ keysLeft (now (keys .entry)) u two operation ⌝ }
     ensures { λ r. ⌜ r .processor ≡ withCode p (codeLeft (now (keys .entry)) u two operation (p .code)) ⌝ }
 {
@@ -40,14 +39,14 @@ fn perform(keys: &mut [u8], p: Processor, u: usize, two: bool, operation: KeyOpe
         KeyOperation::Insert { r1 } => {
             let word = operations::insert(keys, u, two, r1);
             Served {
-                answer: Answer::Completed { word },
+                answer: Answer::Completed { word, rule },
                 processor: p,
             }
         }
         KeyOperation::Set { r1 } => {
             operations::set(keys, u, two, r1);
             Served {
-                answer: Answer::Completed { word: 0 },
+                answer: Answer::Completed { word: 0, rule },
                 processor: p,
             }
         }
@@ -55,7 +54,7 @@ fn perform(keys: &mut [u8], p: Processor, u: usize, two: bool, operation: KeyOpe
             let mut next = p;
             next.code = operations::reset(keys, u, two);
             Served {
-                answer: Answer::Completed { word: 0 },
+                answer: Answer::Completed { word: 0, rule },
                 processor: next,
             }
         }
@@ -78,12 +77,13 @@ pub fn key_instruction(
     let verdict = checks::verdict(settings, storage.len(), keys.len(), p, decoded);
     if stops(verdict) {
         return Served {
-            answer: answer_of(verdict, 0),
+            answer: answer_of(verdict, 0, 0),
             processor: p,
         };
     }
-    let u = first_unit(settings, p, decoded.block);
+    let block = prefixed(p.prefix, decoded.block);
+    let u = unit_of(settings, block.absolute as usize);
     let two = decoded.extended & !settings.four_k;
     let operation = decoded.operation;
-    perform(keys, p, u, two, operation)
+    perform(keys, p, u, two, operation, block.rule)
 }

@@ -24,7 +24,7 @@ use Rattle.machine.specs.Lists.{written}
 use Rattle.machine.specs.Key.{accessControl, fetchProtection, reference, change, keyOf, afterReset, codeOf, joined}
 use Rattle.machine.specs.Prefixing.{absolute}
 use Rattle.machine.specs.KeyInstructions.{operation, twoKeys, keyCount, keyRead, wordGiven, keysLeft, codeLeft, firstUnit}
-use Rattle.machine.specs.Step.{Outcome, outcome, withCode, completed, step}
+use Rattle.machine.specs.Step.{Outcome, outcome, withCode, ruleGiven, completed, step}
 use Rattle.machine.proofs.Verdicts.{not-both}
 use Rattle.machine.proofs.Written.{length-written, written-there, written-elsewhere}
 use Rattle.machine.proofs.KeyBytes.{key-of, key-joined}
@@ -148,7 +148,8 @@ module _ (s : Settings) (storage keys : List ℕ) (p : Processor) (buffer : List
 
   leaves : (op : KeyOperation) → operation i ≡ op
       → after
-      ≡ outcome (Completed (wordGiven keys u two op)) storage (keysLeft keys u two op) (withCode p (codeLeft keys u two op (p .code))) buffer
+      ≡ outcome (Completed (wordGiven keys u two op) (ruleGiven p (Key i)))
+      storage (keysLeft keys u two op) (withCode p (codeLeft keys u two op (p .code))) buffer
   unfolding completed
   leaves op performs = completed-step s storage keys p (Key i) buffer done ∙ rw (first, counted, performs)
 

@@ -22,6 +22,7 @@ pub mod Sentences
 pub mod Refusals
 pub mod Instructions
 pub mod PrefixInstructions
+pub mod AnswerRule
 pub mod PrintedTable
 pub mod Rows
 -- A request over the pair of records

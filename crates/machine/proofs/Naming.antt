@@ -144,11 +144,11 @@ module _ (s : Settings) (storage keys : List ℕ) (p : Processor) (buffer : List
 
 -- a number that isn't 0 or 1: line 64 or 65
 without-number : (s : Settings) (storageLength keyLength : ℕ)
-    → let x = numberOf (answerOf (withoutRecord s storageLength keyLength) 0) in (x ≡ 64) ⊎ (x ≡ 65)
+    → let x = numberOf (answerOf (withoutRecord s storageLength keyLength) 0 0) in (x ≡ 64) ⊎ (x ≡ 65)
 unfolding line firstOf
 without-number s storageLength keyLength = go (lengthsValid s storageLength keyLength)
   where
-    go : (b : Bool) → let x = numberOf (answerOf (firstOf (line Configuration (not b)) (Stop Record 0)) 0) in (x ≡ 64) ⊎ (x ≡ 65)
+    go : (b : Bool) → let x = numberOf (answerOf (firstOf (line Configuration (not b)) (Stop Record 0)) 0 0) in (x ≡ 64) ⊎ (x ≡ 65)
     go true = inr refl
     go false = inl refl
 

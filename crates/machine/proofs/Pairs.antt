@@ -87,7 +87,7 @@ module _ (s : Settings) (storage keys : List ℕ) (ps : List Processor) (n : ℕ
 
   -- what holds of a refusal without a record, and of the step of a processor that has one, holds of the step over the pair
   pub by-record : (P : PairOutcome → Type 0)
-      → (recordOf ps n ≡ none → P (unchanged (values (answerOf (withoutRecord s (length storage) (length keys)) 0))))
+      → (recordOf ps n ≡ none → P (unchanged (values (answerOf (withoutRecord s (length storage) (length keys)) 0 0))))
       → ((p : Processor) → recordOf ps n ≡ some p → P (putBack ps n (step s storage keys p r buffer)))
       → P after
   unfolding pairStep served
@@ -103,7 +103,7 @@ module _ (s : Settings) (storage keys : List ℕ) (ps : List Processor) (n : ℕ
   own-step p e = rw e
 
   -- a number that isn't 0 or 1 is refused, no record is looked at and nothing changes
-  pub other-number-refused : 2 ≤ n → after ≡ unchanged (values (answerOf (withoutRecord s (length storage) (length keys)) 0))
+  pub other-number-refused : 2 ≤ n → after ≡ unchanged (values (answerOf (withoutRecord s (length storage) (length keys)) 0 0))
   unfolding pairStep served
   other-number-refused h = rw (no-record ps n h)
 

@@ -2,21 +2,21 @@
 -- instruction; what is left is computed from the completed request.
 -- Assumes nothing.
 use Prim.Native.Nat.{ℕ, _+_, _*_, _/_, _%_, _<_, _≤_}
-use mathlib.Core.Path.{_≡_, refl}
+use mathlib.Core.Path.{_≡_, refl, ap, _∙_}
 use mathlib.Core.Logic.{_≢_, _↔_, Iff·trans, Iff·rfl, and-true}
 use mathlib.Core.List.{List}
 use native.Mathlib.Decide.{ℕ-discrete, decLt, decLe}
 use native.Mathlib.Omega.{arith}
 use lib.ListN.{length}
-use borrow.Author.Tests.{eq-eqb, ne-eqb}
 use Rattle.machine.specs.declared.Settings.{Settings}
 use Rattle.machine.specs.declared.Processor.{Processor}
 use Rattle.machine.specs.declared.PrefixInstruction.{PrefixInstruction}
 use Rattle.machine.specs.declared.PrefixInstruction.the-variants.{SetPrefix, StorePrefix}
 use Rattle.machine.specs.declared.Request.the-variants.{Prefix}
 use Rattle.machine.specs.Bits.{bits}
-use Rattle.machine.specs.Prefixing.{absolute, prefixOf}
+use Rattle.machine.specs.Prefixing.{prefixed, prefixOf}
 use Rattle.machine.specs.Step.{Outcome, completed, step}
+use Rattle.machine.proofs.Prefixing.{rule-1, rule-2, rule-3}
 use Rattle.machine.proofs.Requests.{completed-step}
 use Rattle.machine.proofs.Sentences.{too-long, prefix-in-block, prefix-outside}
 use Rattle.machine.proofs.Instructions.{Ready, inside-storage, completes-when}
@@ -32,29 +32,22 @@ module _ (q b c : ℕ) (prefix-block : q < 524288) (block : b < 524288) (place :
   prefix-block-number : bits 1 19 (q * 4096) ≡ q
   prefix-block-number = omega arith
 
-  -- bits 1-19 all zero: replaced by the prefix's
-  pub absolute-of-block-0 : b ≡ 0 → absolute (q * 4096) real ≡ q * 4096 + c
-  unfolding absolute
-  absolute-of-block-0 z = rw (eq-eqb (bits 1 19 real) 0 (omega arith)) (omega (arith, block-number, prefix-block-number))
+  -- bits 1-19 all zero: replaced by the prefix's, by rule 1
+  pub block-0-prefixed : b ≡ 0 → prefixed (q * 4096) real ≡ record { absolute = q * 4096 + c; rule = 1 }
+  block-0-prefixed z =
+      rule-1 (q * 4096) real (omega (arith, block-number))
+      ∙ ap (λ a. record { absolute = a; rule = 1 }) (omega (arith, prefix-block-number))
 
-  -- equal to the prefix's: replaced by zeros
-  pub absolute-of-prefix-block : b ≢ 0 → b ≡ q → absolute (q * 4096) real ≡ c
-  unfolding absolute
-  absolute-of-prefix-block n e =
-      rw (
-        ne-eqb (bits 1 19 real) 0 (λ h. n (omega (arith, block-number))),
-        eq-eqb (bits 1 19 real) (bits 1 19 (q * 4096)) (omega (arith, block-number, prefix-block-number)),
-      )
-      (omega (arith, block-number))
+  -- equal to the prefix's: replaced by zeros, by rule 2
+  pub prefix-block-prefixed : b ≢ 0 → b ≡ q → prefixed (q * 4096) real ≡ record { absolute = c; rule = 2 }
+  prefix-block-prefixed n e =
+      rule-2 (q * 4096) real (λ h. n (omega (arith, block-number))) (omega (arith, block-number, prefix-block-number))
+      ∙ ap (λ a. record { absolute = a; rule = 2 }) (omega (arith, block-number))
 
-  -- otherwise unchanged
-  pub absolute-of-other-block : b ≢ 0 → b ≢ q → absolute (q * 4096) real ≡ real
-  unfolding absolute
-  absolute-of-other-block n e =
-      rw (
-        ne-eqb (bits 1 19 real) 0 (λ h. n (omega (arith, block-number))),
-        ne-eqb (bits 1 19 real) (bits 1 19 (q * 4096)) (λ h. e (omega (arith, block-number, prefix-block-number))),
-      )
+  -- otherwise unchanged, by rule 3
+  pub other-block-prefixed : b ≢ 0 → b ≢ q → prefixed (q * 4096) real ≡ record { absolute = real; rule = 3 }
+  other-block-prefixed n e =
+      rule-3 (q * 4096) real (λ h. n (omega (arith, block-number))) (λ h. e (omega (arith, block-number, prefix-block-number)))
 
 -- a completed SET PREFIX: the record has this prefix, and nothing else is changed
 pub record Installs (storage keys : List ℕ) (p : Processor) (buffer : List ℕ) (prefix : ℕ) (o : Outcome) : Type 0 where

@@ -19,7 +19,7 @@ use Rattle.machine.specs.declared.Verdict.{Verdict}
 use Rattle.machine.specs.declared.Verdict.the-variants.{Clear, Stop}
 use Rattle.machine.specs.Numbers.{add24}
 use Rattle.machine.specs.Answers.{number, firstOf}
-use Rattle.machine.specs.Prefixing.{absolute}
+use Rattle.machine.specs.Prefixing.{prefixed, absolute}
 use Rattle.machine.specs.KeyInstructions.{designated}
 use Rattle.machine.specs.Table.{configuration, ownRecord, protection, beforeProtection, verdict}
 use Rattle.machine.specs.Conditions.{numbers, isIn}
@@ -105,7 +105,7 @@ pub line-67-refuses : (line67 4096 (atEnd 4096) (Access Fetch 0 1) ≡ refuses 6
     × (line67 4096 (atEnd 4096) (Key (Isk 0 0x800)) ≡ refuses 67 0)
     × (line67 8192 (atEnd 8192) (Key (Iske 0 0)) ≡ refuses 67 0)
     × (line67 8192 (atEnd 8192) (Key (Iske 0 0x1000)) ≡ passes)
-unfolding absolute
+unfolding prefixed
 line-67-refuses = (refl, refl, refl, refl, refl)
 
 -- the numbers of the table of answers have no 67

@@ -21,7 +21,7 @@ use Rattle.machine.specs.declared.AccessKind.the-variants.{Fetch, Store}
 use Rattle.machine.specs.Lists.{written}
 use Rattle.machine.specs.Key.{keyOf, afterStore, joined}
 use Rattle.machine.specs.Answers.{line, firstOf, firstByte, firstLine}
-use Rattle.machine.specs.Prefixing.{absolute}
+use Rattle.machine.specs.Prefixing.{prefixed}
 use Rattle.machine.specs.Protection.{permitted, lowProtected}
 use Rattle.machine.specs.KeyInstructions.{wordGiven, keysLeft, codeLeft}
 use Rattle.machine.specs.Table.{addressing, protection, beforeProtection, verdict}
@@ -58,7 +58,7 @@ module _ (storage : List ℕ) (h : length storage ≡ 65536) where
     seconds = store 1 0 c ∷ store 1 0 d ∷ []
 
     pub disjoint-units : (u : ℕ) → Apart settings (start storage) firsts seconds u
-    unfolding written afterStore line firstOf firstByte firstLine absolute permitted lowProtected addressing protection
+    unfolding written afterStore line firstOf firstByte firstLine prefixed permitted lowProtected addressing protection
         beforeProtection verdict storageLeft bufferLeft keysRecorded completed performed step served pairStep anyBelow names
     disjoint-units u = go (ℕ-discrete 0 u)
       where
@@ -86,23 +86,23 @@ module _ (storage : List ℕ) (h : length storage ≡ 65536) where
     others = store 1 0 b ∷ asked 1 (Key (Iske 0 0x4000)) ∷ store 2 0 b ∷ []
 
     -- what processor 0's first two requests leave
-    abbrev prefixed : State
-    prefixed = record { storage = storage; keys = replicate 32 0; processors = processor 8192 ∷ processor 4096 ∷ [] }
+    abbrev withPrefix8192 : State
+    withPrefix8192 = record { storage = storage; keys = replicate 32 0; processors = processor 8192 ∷ processor 4096 ∷ [] }
 
     abbrev stored : State
     stored = record { storage = set storage 8192 a; keys = set (replicate 32 0) 4 6; processors = processor 8192 ∷ processor 4096 ∷ [] }
 
-    prefix-set : next settings (start storage) (asked 0 (Prefix (SetPrefix 8192))) ≡ prefixed
+    prefix-set : next settings (start storage) (asked 0 (Prefix (SetPrefix 8192))) ≡ withPrefix8192
     unfolding line firstOf firstLine addressing protection beforeProtection verdict completed performed step served pairStep
     prefix-set = rw h
 
-    byte-stored : next settings prefixed (store 0 0 a) ≡ stored
-    unfolding written afterStore line firstOf firstByte firstLine absolute permitted lowProtected addressing
+    byte-stored : next settings withPrefix8192 (store 0 0 a) ≡ stored
+    unfolding written afterStore line firstOf firstByte firstLine prefixed permitted lowProtected addressing
         protection beforeProtection verdict storageLeft bufferLeft keysRecorded completed performed step served pairStep
     byte-stored = rw h
 
     pub mixed-apart : (u : ℕ) → Apart settings (start storage) mixed others u
-    unfolding written keyOf afterStore line firstOf firstByte firstLine absolute permitted lowProtected wordGiven keysLeft codeLeft
+    unfolding written keyOf afterStore line firstOf firstByte firstLine prefixed permitted lowProtected wordGiven keysLeft codeLeft
         addressing protection beforeProtection verdict storageLeft bufferLeft keysRecorded completed performed step
         served pairStep anyBelow names joined
     mixed-apart u = go (ℕ-discrete 4 u) (ℕ-discrete 6 u)
@@ -137,7 +137,7 @@ module _ (storage : List ℕ) (h : length storage ≡ 65536) where
     firstLast = second (first done)
 
     bytes-left : (getD (ending storage secondLast .state .storage) 0 0 ≡ b) × (getD (ending storage firstLast .state .storage) 0 0 ≡ a)
-    unfolding run written afterStore line firstOf firstByte firstLine absolute permitted lowProtected addressing
+    unfolding run written afterStore line firstOf firstByte firstLine prefixed permitted lowProtected addressing
         protection beforeProtection verdict storageLeft bufferLeft keysRecorded completed performed step served pairStep
     bytes-left = (
       rw (h, length-set storage 0 a, h, set-set storage 0 a b) (getD-set-same storage 0 b 0 (omega arith)),

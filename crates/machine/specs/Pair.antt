@@ -39,7 +39,7 @@ withoutRecord s storageLength keyLength = firstOf (configuration s storageLength
 -- a request of processor n, by its record if it has one
 unfoldable pub served : Option Processor → Settings → List ℕ → List ℕ → List Processor → ℕ → Request → List ℕ → PairOutcome
 served none s storage keys ps n r buffer =
-    pairOutcome (answerOf (withoutRecord s (length storage) (length keys)) 0) storage keys ps buffer
+    pairOutcome (answerOf (withoutRecord s (length storage) (length keys)) 0 0) storage keys ps buffer
 served (some p) s storage keys ps n r buffer = putBack ps n (step s storage keys p r buffer)
 
 -- one request that carries the number n

@@ -5,6 +5,7 @@ use crate::compare::difference;
 use crate::compare::same_records;
 use machine::AccessKind;
 use machine::KeyInstruction;
+use machine::PrefixInstruction;
 use machine::Processor;
 use machine::Reply;
 use machine::Request;
@@ -77,6 +78,10 @@ pub(crate) fn store(address: u32, count: u32) -> Case {
 
 pub(crate) fn key(instruction: KeyInstruction) -> Case {
     case_of(Request::Key(instruction))
+}
+
+pub(crate) fn set_prefix(word: u32) -> Case {
+    case_of(Request::Prefix(PrefixInstruction::SetPrefix { word }))
 }
 
 impl Case {

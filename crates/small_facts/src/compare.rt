@@ -34,7 +34,7 @@ pub(crate) fn same_records(p: [Processor; 2], q: [Processor; 2]) -> bool {
 }
 
 fn same_answer(a: Values, b: Values) -> bool {
-    (a.number == b.number) & (a.place == b.place) & (a.word == b.word)
+    (a.number == b.number) & (a.place == b.place) & (a.word == b.word) & (a.rule == b.rule)
 }
 
 pub(crate) fn same_answers(a: [Values; 4], b: [Values; 4]) -> bool {

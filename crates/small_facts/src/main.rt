@@ -7,6 +7,7 @@ mod show;
 
 use case::fetch;
 use case::key;
+use case::set_prefix;
 use case::store;
 use machine::KeyInstruction;
 use show::absolute;
@@ -77,6 +78,24 @@ fn set_key() {
 fn examples() {
     let rrbe = KeyInstruction::Rrbe { r2: 0 };
     show(b"W2 code %c keys %k and %s\n", key(rrbe).keys(0x84, 0x52));
+    rules();
+}
+
+// The rules that answers carry: of real 4, 8196 and 5000 with prefix 8192; of an access that goes on in the prefix's block; of a key instruction
+// with bits that are dropped; of real 4 with prefix 0; of a refused access; and of SET PREFIX.
+fn rules() {
+    let isk = KeyInstruction::Isk {
+        r1: 0,
+        r2: 0x01002000,
+    };
+    show(b"W6 rules %r", fetch(4, 1).prefix(8192));
+    show(b" %r", fetch(8196, 1).prefix(8192));
+    show(b" %r", fetch(5000, 1).prefix(8192));
+    show(b"; %r", fetch(8191, 2).prefix(8192));
+    show(b"; %r", key(isk).prefix(8192));
+    show(b"; %r", fetch(4, 1));
+    show(b"; number %n rule %r", fetch(65535, 2).prefix(8192));
+    show(b"; %r\n", set_prefix(8192));
 }
 
 fn main() {

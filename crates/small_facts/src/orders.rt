@@ -99,6 +99,7 @@ fn in_order(a: usize, b: usize, c: usize, d: usize, storage: &mut [u8], keys: &m
         number: 0,
         place: 0,
         word: 0,
+        rule: 0,
     };
     let start = End {
         processors: pair(),

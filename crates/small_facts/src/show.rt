@@ -39,6 +39,7 @@ fn value(letter: u8, seen: Seen) {
         b'n' => decimal(answer.number as usize),
         b'p' => decimal(answer.place as usize),
         b'w' => word(answer.word),
+        b'r' => decimal(answer.rule as usize),
         b'c' => decimal(seen.code as usize),
         b'k' => byte(seen.first_key as u32),
         b's' => byte(seen.second_key as u32),

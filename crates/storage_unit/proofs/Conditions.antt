@@ -40,7 +40,7 @@ module _ (s : Settings) (storage keys : List ℕ) (ps : List Processor) (n : ℕ
         own = rw (lt-ltb n 2 small, found) (lookup-getD ps n d inside)
 
   -- and a number that isn't 0 or 1
-  pub both-without-record : (answer : Answer) → answer ≡ answerOf (withoutRecord s (length storage) (length keys)) 0 → 2 ≤ n
+  pub both-without-record : (answer : Answer) → answer ≡ answerOf (withoutRecord s (length storage) (length keys)) 0 0 → 2 ≤ n
       → Both answer storage keys ps buffer
   both-without-record answer e h =
       both answer storage keys buffer ps (rw e (sym (other-number-refused s storage keys ps n r buffer h)))

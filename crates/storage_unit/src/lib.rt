@@ -78,7 +78,7 @@ pub fn request(
     }
     let refused = without_record(settings, storage.len(), keys.len());
     Reply {
-        answer: answer_of(refused, 0),
+        answer: answer_of(refused, 0, 0),
         processors,
     }
 }

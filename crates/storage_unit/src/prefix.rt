@@ -16,7 +16,7 @@ use prefixing::prefix_of;
 ghost use mathlib.Core.Path.{_≡_};
 ghost use mathlib.Core.List.{[]};
 ghost use Rattle.machine.specs.Table.{installOutside, beforeProtection};
-ghost use Rattle.machine.specs.Step.{recordLeft, prefixGiven, outcome, step};
+ghost use Rattle.machine.specs.Step.{recordLeft, prefixGiven, ruleGiven, outcome, step};
 
 // Line 5: the block that SET PREFIX would install lies outside storage.
 fn install_outside(storage_length: usize, instruction: PrefixInstruction) -> bool
@@ -51,20 +51,21 @@ fn verdict(
 
 // What a completed prefix instruction gives and leaves.
 fn complete(p: Processor, instruction: PrefixInstruction) -> Served
-    ensures { λ r. ⌜ (r .answer ≡ Answer.Completed (prefixGiven p instruction)) × (r .processor ≡ recordLeft p instruction) ⌝ }
+    ensures { λ r. ⌜ (r .answer ≡ Answer.Completed (prefixGiven p instruction) (ruleGiven p (Request.Prefix instruction))) × (r .processor ≡ recordLeft p instruction) ⌝ }
 {
     match instruction {
         PrefixInstruction::SetPrefix { word } => {
             let mut next = p;
             next.prefix = prefix_of(word);
             Served {
-                answer: Answer::Completed { word: 0 },
+                answer: Answer::Completed { word: 0, rule: 0 },
                 processor: next,
             }
         }
         PrefixInstruction::StorePrefix => Served {
             answer: Answer::Completed {
                 word: prefix_of(p.prefix),
+                rule: 0,
             },
             processor: p,
         },
@@ -86,7 +87,7 @@ pub(crate) fn prefix_instruction(
     let found = verdict(settings, storage.len(), keys.len(), p, instruction);
     if stops(found) {
         return Served {
-            answer: answer_of(found, 0),
+            answer: answer_of(found, 0, 0),
             processor: p,
         };
     }

@@ -5,7 +5,8 @@
 //! parameter is.
 
 use crate::{
-    AccessKind, Answer, KeyInstruction, Number, PrefixInstruction, Processor, Request, Settings,
+    AccessKind, Answer, KeyInstruction, Number, PrefixInstruction, Processor, Request, Rule,
+    Settings,
 };
 
 /// The type of the C function.
@@ -222,11 +223,18 @@ pub const fn decode_request(operation: u32, first: u32, second: u32) -> Request 
     }
 }
 
-/// The answer as one number: word in the low 32 bits, place in the next 16,
-/// number in the highest 16.
+/// The answer as one number: word in the low 32 bits, place in the next 8, rule in the
+/// next 8 (0 for none), number in the highest 16.
 #[inline]
 pub const fn encode_answer(answer: Answer) -> u64 {
-    (answer.word as u64) | ((answer.place as u64) << 32) | ((answer.number.code() as u64) << 48)
+    let rule = match answer.rule {
+        Some(rule) => rule.number(),
+        None => 0,
+    };
+    (answer.word as u64)
+        | ((answer.place as u64 & 0xFF) << 32)
+        | ((rule as u64) << 40)
+        | ((answer.number.code() as u64) << 48)
 }
 
 /// The number of an answer in its packed form.
@@ -235,14 +243,22 @@ pub const fn packed_number(packed: u64) -> u16 {
     (packed >> 48) as u16
 }
 
-/// The answer from its packed form, or `None` if its number is unknown.
+/// The answer from its packed form, or `None` if its number or its rule is unknown.
 #[inline]
 pub const fn decode_answer(packed: u64) -> Option<Answer> {
+    let rule = match (packed >> 40) as u8 {
+        0 => None,
+        1 => Some(Rule::Zero),
+        2 => Some(Rule::Prefix),
+        3 => Some(Rule::Unchanged),
+        _ => return None,
+    };
     match Number::from_code(packed_number(packed)) {
         Some(number) => Some(Answer {
             number,
-            place: (packed >> 32) as u16,
+            place: (packed >> 32) as u16 & 0xFF,
             word: packed as u32,
+            rule,
         }),
         None => None,
     }
@@ -292,7 +308,7 @@ pub unsafe fn call_raw(
 ///
 /// # Panics
 ///
-/// If the function answers with a number that document 01 does not have.
+/// If the function answers with a number or a rule that the documents do not have.
 ///
 /// # Safety
 ///
@@ -331,6 +347,6 @@ pub unsafe fn call(
     }
     match decode_answer(packed) {
         Some(answer) => answer,
-        None => panic!("the storage unit gave an unknown number: {packed:#018x}"),
+        None => panic!("the storage unit gave an unknown answer: {packed:#018x}"),
     }
 }

@@ -23,7 +23,7 @@
 //! # Example
 //!
 //! ```
-//! use storage_unit::{request, KeyInstruction, Number, Processor, Request, Settings};
+//! use storage_unit::{request, KeyInstruction, Number, Processor, Request, Rule, Settings};
 //!
 //! let settings = Settings { four_k: false, extensions: true };
 //! let mut storage = vec![0; 65_536];
@@ -42,6 +42,7 @@
 //!     &mut buffer,
 //! );
 //! assert_eq!(answer.number, Number::Completed);
+//! assert_eq!(answer.rule, Some(Rule::Unchanged));
 //! assert_eq!(storage[8192..8196], buffer);
 //!
 //! // Processor 1 inserts the key of that block: reference and change bits are on.
@@ -315,6 +316,33 @@ impl Number {
     }
 }
 
+/// The three rules by which a real address becomes an absolute address, as the manual
+/// numbers them. Bits 1-19 of an address are the number of its 4K block.
+#[derive(Clone, Copy, Debug, PartialEq, Eq, PartialOrd, Ord, Hash)]
+#[repr(u8)]
+pub enum Rule {
+    /// 1: bits 1-19 are zero, and are replaced by the prefix's. With prefix zero, the rule
+    /// for every address below 4,096.
+    Zero = 1,
+    /// 2: bits 1-19 are equal to the prefix's, and are replaced by zeros.
+    Prefix = 2,
+    /// 3: otherwise. The address is unchanged.
+    Unchanged = 3,
+}
+
+impl Rule {
+    /// The number of the rule.
+    ///
+    /// ```
+    /// use storage_unit::Rule;
+    /// assert_eq!(Rule::Unchanged.number(), 3);
+    /// ```
+    #[inline]
+    pub const fn number(self) -> u8 {
+        self as u8
+    }
+}
+
 /// The answer to a request.
 #[derive(Clone, Copy, Debug, PartialEq, Eq, Hash)]
 pub struct Answer {
@@ -326,16 +354,21 @@ pub struct Answer {
     pub place: u16,
     /// The result of a completed ISK, ISKE or STORE PREFIX; otherwise zero.
     pub word: u32,
+    /// For a completed fetch, store or key instruction, the rule that gave the absolute
+    /// address of the first address it names: of the first byte of an access, or of the
+    /// block of a key instruction. `None` for every other answer.
+    pub rule: Option<Rule>,
 }
 
 impl Answer {
-    /// The answer of a completed request with this word.
+    /// The answer of a completed request with this word and this rule.
     #[inline]
-    pub const fn completed(word: u32) -> Self {
+    pub const fn completed(word: u32, rule: Option<Rule>) -> Self {
         Answer {
             number: Number::Completed,
             place: 0,
             word,
+            rule,
         }
     }
 
@@ -346,6 +379,7 @@ impl Answer {
             number,
             place,
             word: 0,
+            rule: None,
         }
     }
 }

@@ -5,7 +5,7 @@
 
 use crate::{
     boundary, AccessKind, Answer, KeyInstruction, Number, PrefixInstruction, Processor, Request,
-    RequestFunction, Settings, Unit,
+    RequestFunction, Rule, Settings, Unit,
 };
 
 const PAGE: usize = 4096;
@@ -21,16 +21,16 @@ const UNUSED: u8 = 0x01;
 /// The end of the real addresses that low-address protection covers.
 const LOW_END: u32 = 512;
 
-/// The absolute address of a real address.
+/// The absolute address of a real address, and the rule that gives it.
 #[inline]
-fn prefixed(real: u32, prefix: u32) -> u32 {
+fn prefixed(real: u32, prefix: u32) -> (u32, Rule) {
     let page = real & PAGE_MASK;
     if page == 0 {
-        real | prefix
+        (real | prefix, Rule::Zero)
     } else if page == prefix {
-        real & !PAGE_MASK
+        (real & !PAGE_MASK, Rule::Prefix)
     } else {
-        real
+        (real, Rule::Unchanged)
     }
 }
 
@@ -106,6 +106,7 @@ fn request_with_record(
 struct Span {
     real: u32,
     absolute: usize,
+    rule: Rule,
     unit: usize,
     byte_count: usize,
 }
@@ -113,10 +114,12 @@ struct Span {
 impl Span {
     #[inline]
     fn new(settings: Settings, own: &Processor, real: u32, byte_count: usize) -> Span {
-        let absolute = prefixed(real, own.prefix) as usize;
+        let (absolute, rule) = prefixed(real, own.prefix);
+        let absolute = absolute as usize;
         Span {
             real,
             absolute,
+            rule,
             unit: absolute >> unit_shift(settings),
             byte_count,
         }
@@ -178,12 +181,13 @@ fn access(
     let buffer = &mut buffer[..byte_count];
     let unit = settings.key_unit();
     let room = unit - start % unit;
-    if byte_count <= room {
+    let rule = if byte_count <= room {
         let span = Span::new(settings, own, address, byte_count);
         if !span.permitted(keys, own, kind) {
             return Answer::refused(Number::Protection, 0);
         }
         span.perform(storage, keys, kind, buffer);
+        span.rule
     } else {
         let second_address = (address + room as u32) & ADDRESS_MASK;
         let first = Span::new(settings, own, address, room);
@@ -197,8 +201,9 @@ fn access(
         let (first_bytes, second_bytes) = buffer.split_at_mut(room);
         first.perform(storage, keys, kind, first_bytes);
         second.perform(storage, keys, kind, second_bytes);
-    }
-    Answer::completed(0)
+        first.rule
+    };
+    Answer::completed(0, Some(rule))
 }
 
 #[inline]
@@ -241,27 +246,29 @@ fn key_instruction(
         return Answer::refused(Number::Addressing, 0);
     }
 
-    let first = (prefixed(real, own.prefix) >> unit_shift(settings)) as usize;
+    let (absolute, rule) = prefixed(real, own.prefix);
+    let first = (absolute >> unit_shift(settings)) as usize;
     let count = if extended && !settings.four_k { 2 } else { 1 };
     let keys = &mut keys[first..first + count];
     let recorded = keys.iter().fold(0, |bits, key| bits | key) & (REFERENCE | CHANGE);
-    match instruction {
+    let word = match instruction {
         KeyInstruction::Isk { r1, .. } | KeyInstruction::Iske { r1, .. } => {
             let key = keys[0] & !UNUSED | recorded;
-            Answer::completed(r1 & !0xFF | u32::from(key))
+            r1 & !0xFF | u32::from(key)
         }
         KeyInstruction::Ssk { r1, .. } | KeyInstruction::Sske { r1, .. } => {
             keys.fill(r1 as u8 & !UNUSED);
-            Answer::completed(0)
+            0
         }
         KeyInstruction::Rrb { .. } | KeyInstruction::Rrbe { .. } => {
             own.code = recorded >> 1;
             for key in keys {
                 *key &= !(REFERENCE | UNUSED);
             }
-            Answer::completed(0)
+            0
         }
-    }
+    };
+    Answer::completed(word, Some(rule))
 }
 
 #[inline]
@@ -280,9 +287,9 @@ fn prefix_instruction(
                 return Answer::refused(Number::Addressing, 0);
             }
             own.prefix = prefix;
-            Answer::completed(0)
+            Answer::completed(0, None)
         }
-        PrefixInstruction::StorePrefix => Answer::completed(own.prefix),
+        PrefixInstruction::StorePrefix => Answer::completed(own.prefix, None),
     }
 }
 

@@ -7,7 +7,7 @@
 
 use crate::{
     AccessKind, Answer, KeyInstruction, Number, PrefixInstruction, Processor, Request,
-    RequestFunction, Settings, Unit,
+    RequestFunction, Rule, Settings, Unit,
 };
 
 /// The number of 24-bit addresses.
@@ -44,18 +44,25 @@ fn real_address(start: u32, offset: u32) -> u32 {
     (start + offset) % ADDRESSES_24
 }
 
+/// The rule that gives the absolute address of a real address: the first that applies.
+fn prefix_rule(real: u32, prefix: u32) -> Rule {
+    if bits(real, 1, 19) == 0 {
+        Rule::Zero
+    } else if bits(real, 1, 19) == bits(prefix, 1, 19) {
+        Rule::Prefix
+    } else {
+        Rule::Unchanged
+    }
+}
+
 /// The absolute address of a real address.
 fn absolute_address(real: u32, prefix: u32) -> u32 {
-    let block = bits(real, 1, 19);
-    let prefix_block = bits(prefix, 1, 19);
-    let absolute_block = if block == 0 {
-        prefix_block
-    } else if block == prefix_block {
-        0
-    } else {
-        block
+    let block = match prefix_rule(real, prefix) {
+        Rule::Zero => bits(prefix, 1, 19),
+        Rule::Prefix => 0,
+        Rule::Unchanged => bits(real, 1, 19),
     };
-    absolute_block * 4096 + bits(real, 20, 31)
+    block * 4096 + bits(real, 20, 31)
 }
 
 /// The number of bytes in a key unit.
@@ -344,26 +351,32 @@ pub fn request(
                     }
                 }
             }
-            Answer::completed(0)
+            // Byte 0 is the first address that it names.
+            Answer::completed(0, Some(prefix_rule(real_address(address, 0), own.prefix)))
         }
-        Request::Key(ref instruction) => complete_key_instruction(settings, keys, own, instruction),
+        Request::Key(ref instruction) => {
+            // The block is the first address that it names.
+            let rule = prefix_rule(designated_block(instruction), own.prefix);
+            let word = complete_key_instruction(settings, keys, own, instruction);
+            Answer::completed(word, Some(rule))
+        }
         Request::Prefix(PrefixInstruction::SetPrefix { word }) => {
             own.prefix = new_prefix(word);
-            Answer::completed(0)
+            Answer::completed(0, None)
         }
         Request::Prefix(PrefixInstruction::StorePrefix) => {
-            Answer::completed(bits(own.prefix, 8, 19) * 4096)
+            Answer::completed(bits(own.prefix, 8, 19) * 4096, None)
         }
     }
 }
 
-/// The effect and the answer of a key instruction that no line refuses.
+/// The effect and the word of a key instruction that no line refuses.
 fn complete_key_instruction(
     settings: Settings,
     keys: &mut [u8],
     own: &mut Processor,
     instruction: &KeyInstruction,
-) -> Answer {
+) -> u32 {
     let (low, high) = keys_of_instruction(settings, own.prefix, instruction);
     match *instruction {
         KeyInstruction::Isk { r1, .. } | KeyInstruction::Iske { r1, .. } => {
@@ -376,7 +389,7 @@ fn complete_key_instruction(
                 change,
             );
             // Bits 0-23 of R1 stay, bits 24-30 are the key, bit 31 is zero.
-            Answer::completed(bits(r1, 0, 23) * 256 + u32::from(inserted))
+            bits(r1, 0, 23) * 256 + u32::from(inserted)
         }
         KeyInstruction::Ssk { r1, .. } | KeyInstruction::Sske { r1, .. } => {
             // Bits 24-30 of R1, with bit 7 of the key zero.
@@ -385,7 +398,7 @@ fn complete_key_instruction(
             if let Some(high) = high {
                 keys[high] = key;
             }
-            Answer::completed(0)
+            0
         }
         KeyInstruction::Rrb { .. } | KeyInstruction::Rrbe { .. } => {
             let (reference, change) = reference_and_change(keys, low, high);
@@ -394,7 +407,7 @@ fn complete_key_instruction(
             if let Some(high) = high {
                 keys[high] = without_reference(keys[high]);
             }
-            Answer::completed(0)
+            0
         }
     }
 }

@@ -7,7 +7,7 @@ use std::ptr::null_mut;
 use storage_unit::boundary::*;
 use storage_unit::reference;
 use storage_unit::{
-    Answer, KeyInstruction, Number, PrefixInstruction, Processor, Request, Settings,
+    Answer, KeyInstruction, Number, PrefixInstruction, Processor, Request, Rule, Settings,
 };
 
 use support::{random_buffer, random_key, random_processor, random_request, Aim, Random};
@@ -124,15 +124,35 @@ fn requests_have_operation_and_two_operands() {
 
 #[test]
 fn answers_are_packed() {
-    let answer = Answer {
-        number: Number::SpecialOperation,
-        place: 0x0102,
-        word: 0x8899_AABB,
-    };
-    assert_eq!(encode_answer(answer), 0x0013_0102_8899_AABB);
-    assert_eq!(decode_answer(0x0013_0102_8899_AABB), Some(answer));
-    // 3 and 67.
-    for unknown in [0x0003_0000_0000_0000, 0x0043_0000_0000_0000] {
+    for (answer, packed) in [
+        (
+            Answer::refused(Number::SpecialOperation, 0xFE),
+            0x0013_00FE_0000_0000,
+        ),
+        (Answer::completed(0x8899_AABB, None), 0x8899_AABB),
+        (
+            Answer::completed(0x8899_AABB, Some(Rule::Zero)),
+            0x0000_0100_8899_AABB,
+        ),
+        (
+            Answer::completed(0, Some(Rule::Prefix)),
+            0x0000_0200_0000_0000,
+        ),
+        (
+            Answer::completed(0, Some(Rule::Unchanged)),
+            0x0000_0300_0000_0000,
+        ),
+    ] {
+        assert_eq!(encode_answer(answer), packed);
+        assert_eq!(decode_answer(packed), Some(answer));
+    }
+    // The numbers 3 and 67, and the rules 4 and 255.
+    for unknown in [
+        0x0003_0000_0000_0000,
+        0x0043_0000_0000_0000,
+        0x0000_0400_0000_0000,
+        0x0000_FF00_0000_0000,
+    ] {
         assert_eq!(decode_answer(unknown), None);
     }
     for code in 0..=u16::MAX {

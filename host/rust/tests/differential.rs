@@ -21,7 +21,7 @@ use storage_unit::plain::{Plain, PlainBehindBoundary};
 use storage_unit::reference::{self, Reference};
 use storage_unit::{
     boundary, AccessKind, Answer, KeyInstruction, Number, PrefixInstruction, Processor, Request,
-    Settings, Unit,
+    Rule, Settings, Unit,
 };
 
 use support::*;
@@ -71,6 +71,10 @@ enum Event {
     PrefixRule1,
     PrefixRule2,
     TwoPrefixRules,
+    PrefixRule1WithPrefixZero,
+    BlockByRule1,
+    BlockByRule2,
+    IgnoredBitsUnderAnotherRule,
     PrefixAtLastBlock,
     PrefixAtEnd,
     LowAddressAgainstKeyZero,
@@ -97,7 +101,7 @@ enum Event {
     OtherRecordDamaged,
 }
 
-const EVENTS: [(Event, &str); 32] = [
+const EVENTS: [(Event, &str); 36] = [
     (Event::CompletedPastEnd, "access completed past 16,777,215"),
     (
         Event::RefusedPastEndByLowAddress,
@@ -123,6 +127,22 @@ const EVENTS: [(Event, &str); 32] = [
     (
         Event::TwoPrefixRules,
         "access completed under two prefix rules",
+    ),
+    (
+        Event::PrefixRule1WithPrefixZero,
+        "access completed by prefix rule 1, prefix zero",
+    ),
+    (
+        Event::BlockByRule1,
+        "key instruction completed by prefix rule 1, prefix not zero",
+    ),
+    (
+        Event::BlockByRule2,
+        "key instruction completed by prefix rule 2",
+    ),
+    (
+        Event::IgnoredBitsUnderAnotherRule,
+        "key instruction completed, by another prefix rule without its ignored bits",
     ),
     (
         Event::PrefixAtLastBlock,
@@ -202,10 +222,13 @@ const EVENTS: [(Event, &str); 32] = [
 ];
 
 /// Whether each event was met.
-#[derive(Default)]
 struct Met([bool; EVENTS.len()]);
 
 impl Met {
+    fn none() -> Self {
+        Met([false; EVENTS.len()])
+    }
+
     fn set(&mut self, event: Event, met: bool) {
         self.0[event as usize] = met;
     }
@@ -220,16 +243,7 @@ fn absolute_outside(request: &Request, prefix: u32, storage_length: usize) -> bo
     match *request {
         Request::Access { address, count, .. } => (0..count.min(256))
             .any(|offset| outside((address % ADDRESSES_24 + offset) % ADDRESSES_24)),
-        Request::Key(
-            KeyInstruction::Isk { r2: address, .. }
-            | KeyInstruction::Ssk { r2: address, .. }
-            | KeyInstruction::Rrb { address },
-        ) => outside(address & 0x00FF_F800),
-        Request::Key(
-            KeyInstruction::Iske { r2, .. }
-            | KeyInstruction::Sske { r2, .. }
-            | KeyInstruction::Rrbe { r2 },
-        ) => outside(r2 & 0x7FFF_F000),
+        Request::Key(ref instruction) => outside(block_of(instruction).1),
         Request::Prefix(_) => false,
     }
 }
@@ -243,7 +257,7 @@ fn events_of(
     asked: &Asked,
     answer: &Answer,
 ) -> Met {
-    let mut met = Met::default();
+    let mut met = Met::none();
     let Some(own) = records_before.get(asked.processor as usize) else {
         return met;
     };
@@ -260,6 +274,19 @@ fn events_of(
         Event::OtherRecordDamaged,
         completed && !is_valid(other, storage_length),
     );
+    if let (Request::Key(instruction), true) = (&asked.request, completed) {
+        let (operand, block) = block_of(instruction);
+        let by_rule = rule(block, own.prefix);
+        met.set(
+            Event::BlockByRule1,
+            by_rule == Rule::Zero && own.prefix != 0,
+        );
+        met.set(Event::BlockByRule2, by_rule == Rule::Prefix);
+        met.set(
+            Event::IgnoredBitsUnderAnotherRule,
+            rule(operand & 0x7FFF_FFFF, own.prefix) != by_rule,
+        );
+    }
     match asked.request {
         Request::Access {
             kind,
@@ -286,23 +313,22 @@ fn events_of(
             let key = keys_before[(absolute(address, own.prefix) / unit) as usize];
             let last_key = keys_before[(absolute(last, own.prefix) / unit) as usize];
             let keys_match = own.psw_key == 0 || own.psw_key == key >> 4;
-            let rule = |real: u32| match real / 4096 {
-                0 => 1,
-                page if page == own.prefix / 4096 => 2,
-                _ => 3,
-            };
+            let rule = |real: u32| rule(real, own.prefix);
             let past_end = address + count > ADDRESSES_24;
             let low_store = !fetch && own.low_protection;
             if completed {
                 met.set(Event::CompletedPastEnd, past_end);
                 met.set(Event::CompletedOverTwoUnits, address / unit != last / unit);
-                met.set(Event::PrefixRule1, rule(address) == 1 && own.prefix != 0);
-                met.set(Event::PrefixRule2, rule(address) == 2);
+                let by_rule_1 = rule(address) == Rule::Zero;
+                met.set(Event::PrefixRule1, by_rule_1 && own.prefix != 0);
+                met.set(Event::PrefixRule2, rule(address) == Rule::Prefix);
+                met.set(
+                    Event::PrefixRule1WithPrefixZero,
+                    by_rule_1 && own.prefix == 0,
+                );
                 met.set(
                     Event::PrefixAtLastBlock,
-                    rule(address) == 1
-                        && own.prefix != 0
-                        && own.prefix as usize + 4096 == storage_length,
+                    by_rule_1 && own.prefix != 0 && own.prefix as usize + 4096 == storage_length,
                 );
                 met.set(
                     Event::TwoPrefixRules,
@@ -410,7 +436,6 @@ fn events_of(
 }
 
 /// How often each operation gave each number, and how often each event was met.
-#[derive(Default)]
 struct Counts {
     numbers: [[u64; Number::ALL.len()]; OPERATIONS.len()],
     events: [u64; EVENTS.len()],
@@ -418,6 +443,14 @@ struct Counts {
 }
 
 impl Counts {
+    fn new() -> Self {
+        Counts {
+            numbers: [[0; Number::ALL.len()]; OPERATIONS.len()],
+            events: [0; EVENTS.len()],
+            machines: 0,
+        }
+    }
+
     fn total(&self, number: Number) -> u64 {
         let column = column(number);
         self.numbers.iter().map(|row| row[column]).sum()
@@ -760,7 +793,7 @@ fn change_keys(random: &mut Random, keys: &mut [u8], aim: &Aim, request: &Reques
 fn run<U: Unit>() {
     let requests = from_environment("STORAGE_UNIT_REQUESTS", DEFAULT_REQUESTS);
     let first_seed = from_environment("STORAGE_UNIT_SEED", DEFAULT_SEED);
-    let mut counts = Counts::default();
+    let mut counts = Counts::new();
     let mut made = 0;
     let mut seed = first_seed;
     while made < requests {

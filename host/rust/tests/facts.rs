@@ -8,42 +8,38 @@
 
 mod support;
 
-use storage_unit::{Answer, KeyInstruction, Number, Request, Unit};
+use storage_unit::{Answer, KeyInstruction, Number, PrefixInstruction, Request, Rule, Unit};
 
 use support::cases::*;
 use support::Lent;
 
 /// A fetch of one byte gives the byte at this absolute address, and a store of one
-/// byte writes it there. Both record it in the key of that unit.
-fn real_is_absolute<U: Unit>(before: &Lent, real: u32, absolute: usize) {
+/// byte writes it there. Both record it in the key of that unit, and carry this rule.
+fn real_is_absolute<U: Unit>(before: &Lent, real: u32, absolute: usize, rule: Rule) {
+    let answer = Answer::completed(0, Some(rule));
     let mut after = before.clone();
     after.keys[absolute / 2048] |= 0x04;
-    expect::<U>(
-        before,
-        Request::fetch(real, 1),
-        &[0],
-        Answer::completed(0),
-        &[content(absolute)],
-        &after,
-    );
+    let (fetch, store) = (Request::fetch(real, 1), Request::store(real, 1));
+    let fetched = [content(absolute)];
+    expect::<U>(before, fetch, &[0], answer, &fetched, &after);
     after.keys[absolute / 2048] |= 0x06;
     after.storage[absolute] = 0xFF;
-    completes::<U>(before, Request::store(real, 1), &[0xFF], 0, &after);
+    expect::<U>(before, store, &[0xFF], answer, &[0xFF], &after);
 }
 
-/// Prefix 8192, real 4: absolute 8196.
+/// Prefix 8192, real 4: absolute 8196. W6: rule 1.
 fn p1<U: Unit>() {
-    real_is_absolute::<U>(&with_prefix(8192), 4, 8196);
+    real_is_absolute::<U>(&with_prefix(8192), 4, 8196, Rule::Zero);
 }
 
-/// Prefix 8192, real 8196: absolute 4.
+/// Prefix 8192, real 8196: absolute 4. W6: rule 2.
 fn p2<U: Unit>() {
-    real_is_absolute::<U>(&with_prefix(8192), 8196, 4);
+    real_is_absolute::<U>(&with_prefix(8192), 8196, 4, Rule::Prefix);
 }
 
-/// Prefix 8192, real 5000: 5000.
+/// Prefix 8192, real 5000: 5000. W6: rule 3.
 fn p3<U: Unit>() {
-    real_is_absolute::<U>(&with_prefix(8192), 5000, 5000);
+    real_is_absolute::<U>(&with_prefix(8192), 5000, 5000, Rule::Unchanged);
 }
 
 /// The usual state with this key for the first unit and this PSW key.
@@ -70,11 +66,10 @@ fn p5<U: Unit>() {
     let before = with_keys(0x80, 3);
     let mut after = before.clone();
     after.keys[0] = 0x84;
-    expect::<U>(
+    fetches::<U>(
         &before,
         Request::fetch(100, 4),
         &[0; 4],
-        Answer::completed(0),
         &[100, 101, 102, 103],
         &after,
     );
@@ -188,11 +183,10 @@ fn fact_15<U: Unit>() {
     let before = usual();
     let mut after = before.clone();
     after.keys[31] = 0x04;
-    expect::<U>(
+    fetches::<U>(
         &before,
         Request::fetch(65_535, 1),
         &[0],
-        Answer::completed(0),
         &[content(65_535)],
         &after,
     );
@@ -232,14 +226,7 @@ fn fact_17<U: Unit>() {
     after.keys[0] = 0x04;
     let mut fetched = buffer.clone();
     fetched[..256].copy_from_slice(&before.storage[..256]);
-    expect::<U>(
-        &before,
-        Request::fetch(0, 256),
-        &buffer,
-        Answer::completed(0),
-        &fetched,
-        &after,
-    );
+    fetches::<U>(&before, Request::fetch(0, 256), &buffer, &fetched, &after);
 
     after.keys[0] = 0x06;
     after.storage[..256].copy_from_slice(&buffer[..256]);
@@ -287,7 +274,8 @@ fn fact_19<U: Unit>() {
             let mut buffer = [bytes[processor][turns[processor]]];
             turns[processor] += 1;
             let answer = lent.request::<U>(processor as u32, &Request::store(0, 1), &mut buffer);
-            assert_eq!(answer, Answer::completed(0), "order {order:?}");
+            let expected = Answer::completed(0, Some(Rule::Zero));
+            assert_eq!(answer, expected, "order {order:?}");
         }
         assert!(lent == after, "order {order:?}");
     }
@@ -303,7 +291,8 @@ fn fact_20<U: Unit>() {
             let mut buffer = [[0xF0, 0xF1][processor]];
             let answer =
                 lent.request::<U>(processor as u32, &Request::store(address, 1), &mut buffer);
-            assert_eq!(answer, Answer::completed(0), "order {order:?}");
+            let expected = Answer::completed(0, Some([Rule::Zero, Rule::Prefix][processor]));
+            assert_eq!(answer, expected, "order {order:?}");
         }
         let mut after = with_two_prefixes();
         after.storage[0] = last_byte;
@@ -323,8 +312,96 @@ fn w2<U: Unit>() {
     completes::<U>(&before, request, &[], 0, &after);
 }
 
+/// W6: with prefix zero, real 4 goes by rule 1 and real 4096 by rule 3.
+fn w6_prefix_zero<U: Unit>() {
+    real_is_absolute::<U>(&usual(), 4, 4, Rule::Zero);
+    real_is_absolute::<U>(&usual(), 4095, 4095, Rule::Zero);
+    real_is_absolute::<U>(&usual(), 4096, 4096, Rule::Unchanged);
+}
+
+/// W6: the rule of this answer, and its number.
+fn carries<U: Unit>(before: &Lent, request: Request, number: Number, rule: Option<Rule>) {
+    let given = before.clone().request::<U>(0, &request, &mut [0; 2]);
+    assert_eq!((given.number, given.rule), (number, rule), "{request:?}");
+}
+
+/// W6: an access carries the rule of its first byte, also where it goes on under
+/// another rule, or at 0.
+fn w6_first_byte<U: Unit>() {
+    let completed = Number::Completed;
+    for (address, rule) in [
+        (4095, Rule::Zero),
+        (8191, Rule::Unchanged),
+        (12_287, Rule::Prefix),
+    ] {
+        for request in [Request::fetch(address, 2), Request::store(address, 2)] {
+            carries::<U>(&with_prefix(8192), request, completed, Some(rule));
+        }
+    }
+    let mut before = with_storage(16_777_216);
+    let last = Request::fetch(16_777_215, 2);
+    carries::<U>(&before, last, completed, Some(Rule::Unchanged));
+    before.processors[0].prefix = 16_777_216 - 4096;
+    carries::<U>(&before, last, completed, Some(Rule::Prefix));
+}
+
+/// W6: a key instruction carries the rule of its block, without the bits that it
+/// ignores.
+fn w6_block<U: Unit>() {
+    let before = with_prefix(8192);
+    let basic = |r2| {
+        [
+            Request::Key(KeyInstruction::Isk { r1: 0, r2 }),
+            Request::Key(KeyInstruction::Ssk { r1: 0, r2 }),
+        ]
+    };
+    let extended = |r2| {
+        [
+            Request::Key(KeyInstruction::Iske { r1: 0, r2 }),
+            Request::Key(KeyInstruction::Sske { r1: 0, r2 }),
+            Request::Key(KeyInstruction::Rrbe { r2 }),
+        ]
+    };
+    for (block, rule) in [
+        (0, Rule::Zero),
+        (8192, Rule::Prefix),
+        (4096, Rule::Unchanged),
+    ] {
+        for request in basic(0xFF00_07F0 | block) {
+            carries::<U>(&before, request, Number::Completed, Some(rule));
+        }
+        for request in extended(0x8000_0FFF | block) {
+            carries::<U>(&before, request, Number::Completed, Some(rule));
+        }
+        let rrb = Request::Key(KeyInstruction::Rrb {
+            address: block | 0xFFF,
+        });
+        carries::<U>(&before, rrb, Number::Completed, Some(rule));
+    }
+}
+
+/// W6: every other answer carries 0: refusals, also after addresses were translated, SET
+/// PREFIX and STORE PREFIX.
+fn w6_none<U: Unit>() {
+    let mut before = with_prefix(8192);
+    carries::<U>(&before, Request::fetch(65_535, 2), Number::Addressing, None);
+    for instruction in [
+        PrefixInstruction::SetPrefix { word: 8192 },
+        PrefixInstruction::StorePrefix,
+    ] {
+        let request = Request::Prefix(instruction);
+        carries::<U>(&before, request, Number::Completed, None);
+    }
+    before.processors[0].psw_key = 3;
+    for address in [0, 4096, 8192] {
+        let request = Request::store(address, 1);
+        carries::<U>(&before, request, Number::Protection, None);
+    }
+}
+
 for_each_unit! {
     p1 p2 p3 p4 p5 p6 p7 p8 p9 p10 p11 p12
     fact_13 fact_14 fact_15 fact_16 fact_17 fact_18 fact_19 fact_20
     w2
+    w6_prefix_zero w6_first_byte w6_block w6_none
 }

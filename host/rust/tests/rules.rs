@@ -412,11 +412,10 @@ fn past_the_highest_address<U: Unit>() {
     after.keys[0] = 0x04;
     let mut fetched = before.storage[16_777_000..].to_vec();
     fetched.extend_from_slice(&before.storage[..40]);
-    expect::<U>(
+    fetches::<U>(
         &before,
         Request::fetch(16_777_000, 256),
         &[0; 256],
-        Answer::completed(0),
         &fetched,
         &after,
     );
@@ -466,11 +465,10 @@ fn access_under_two_rules<U: Unit>() {
     let mut after = before.clone();
     after.keys[5] = 0x04;
     after.keys[2] = 0x04;
-    expect::<U>(
+    fetches::<U>(
         &before,
         Request::fetch(4094, 4),
         &[0; 4],
-        Answer::completed(0),
         &[
             content(12_286),
             content(12_287),
@@ -539,17 +537,19 @@ fn reaches_block<U: Unit>(before: &Lent, real: usize, block: usize) {
     let mut bytes = [0; 256];
     let last = Request::fetch(real as u32 + 3840, 256);
     let given = before.clone().request::<U>(0, &last, &mut bytes);
-    assert_eq!(given, Answer::completed(0));
+    assert_eq!(given, completed(before, last, 0));
     for (index, byte) in bytes.into_iter().enumerate() {
         assert_eq!(byte, content(block + 3840 + index));
     }
     let key_at = |address| u32::from(before.keys[address / before.settings.key_unit()]);
     for half in [0, 2048] {
-        let given = answer::<U>(before, 0, isk(0, (real + half) as u32), 0);
-        assert_eq!(given, Answer::completed(key_at(block + half)));
+        let request = isk(0, (real + half) as u32);
+        let given = answer::<U>(before, 0, request, 0);
+        assert_eq!(given, completed(before, request, key_at(block + half)));
     }
-    let given = answer::<U>(before, 0, iske(0, real as u32), 0);
-    assert_eq!(given, Answer::completed(key_at(block)));
+    let request = iske(0, real as u32);
+    let given = answer::<U>(before, 0, request, 0);
+    assert_eq!(given, completed(before, request, key_at(block)));
 }
 
 /// A prefix at the end of storage is refused with 65 whatever is asked, and SET PREFIX
@@ -562,7 +562,7 @@ fn prefix_stays_inside<U: Unit>() {
         for block in 0..blocks as u32 {
             let mut lent = before.clone();
             let given = lent.request::<U>(0, &set_prefix(block * 4096 + 4095), &mut []);
-            assert_eq!(given, Answer::completed(0));
+            assert_eq!(given, Answer::completed(0, None));
             for request in one_of_each() {
                 let given = answer::<U>(&lent, 0, request, 4);
                 let outside = request == set_prefix(4096) && blocks == 1;
@@ -646,14 +646,7 @@ fn bit_7_and_accesses<U: Unit>() {
     after.keys[0] = 0x36;
     after.keys[1] = 0x34;
     let fetched = &before.storage[2040..2056].to_vec();
-    expect::<U>(
-        &before,
-        Request::fetch(2040, 16),
-        &[0; 16],
-        Answer::completed(0),
-        fetched,
-        &after,
-    );
+    fetches::<U>(&before, Request::fetch(2040, 16), &[0; 16], fetched, &after);
     after.keys[1] = 0x36;
     after.storage[2040..2056].copy_from_slice(&new_bytes(16));
     completes::<U>(&before, Request::store(2040, 16), &new_bytes(16), 0, &after);
@@ -685,14 +678,7 @@ fn low_address_protection<U: Unit>() {
     let mut after = before.clone();
     after.keys[4] = 0x04;
     let fetched = before.storage[8192..8448].to_vec();
-    expect::<U>(
-        &before,
-        Request::fetch(0, 256),
-        &[0; 256],
-        Answer::completed(0),
-        &fetched,
-        &after,
-    );
+    fetches::<U>(&before, Request::fetch(0, 256), &[0; 256], &fetched, &after);
     // The bit of the other processor does not matter.
     let mut other = usual();
     other.processors[1].low_protection = true;
@@ -724,11 +710,10 @@ fn buffers<U: Unit>() {
     }
     let mut after = before.clone();
     after.keys[0] = 0x04;
-    expect::<U>(
+    fetches::<U>(
         &before,
         Request::fetch(1, 4),
         &[9; 6],
-        Answer::completed(0),
         &[1, 2, 3, 4, 9, 9],
         &after,
     );
@@ -987,7 +972,7 @@ fn set_prefix_rules<U: Unit>() {
 fn new_prefix_holds<U: Unit>() {
     let mut lent = usual();
     let given = lent.request::<U>(1, &set_prefix(4096), &mut []);
-    assert_eq!(given, Answer::completed(0));
+    assert_eq!(given, Answer::completed(0, None));
     let mut buffer = [0];
     lent.request::<U>(1, &Request::fetch(10, 1), &mut buffer);
     assert_eq!(buffer, [content(4106)]);
@@ -996,7 +981,7 @@ fn new_prefix_holds<U: Unit>() {
     assert_eq!(lent.processors[0].prefix, 0);
     assert_eq!(lent.processors[1].prefix, 4096);
     let given = lent.request::<U>(0, &STORE_PREFIX, &mut []);
-    assert_eq!(given, Answer::completed(0));
+    assert_eq!(given, Answer::completed(0, None));
 }
 
 /// SET PREFIX cannot mend a bad prefix.

@@ -25,17 +25,24 @@ returns c =
     rw (c .answer-of .ensures)
     (refused _ _ _ _ _ (judged .before .decode .ensures) (judged .verdict .ensures) (asked .stops .ensures) (stopped .if1 .taken))
 
-first-unit-requires : tie.Need-first-unit-requires
-first-unit-requires c κs = search needs
+prefixed-requires : tie.Need-prefixed-requires
+prefixed-requires c κs = search needs
+
+cast-unit-of : tie.Need-cast-unit-of
+cast-unit-of c = search needs
+
+unit-of-requires : tie.Need-unit-of-requires
+unit-of-requires c κs = search needs
 
 perform-requires : tie.Need-perform-requires
 perform-requires c κs =
     let read = c .before in
     let placed = read .before .before in
-    let clear = placed .before in
+    let block = placed .before .before in
+    let clear = block .before in
     let asked = clear .before in
     let judged = asked .before in
-    rw (placed .first-unit .ensures)
+    rw (placed .unit-of .ensures, block .prefixed .ensures)
     (keys-inside _ _ _ _ _ (judged .before .decode .ensures) (judged .verdict .ensures) (asked .stops .ensures) (clear .if1 .left))
 
 same-length : tie.Need-same-length
@@ -46,11 +53,12 @@ returns-2 c =
     let done = c .before .before in
     let read = done .before .before in
     let placed = read .before .before in
-    let clear = placed .before in
+    let block = placed .before .before in
+    let clear = block .before in
     let asked = clear .before in
     let judged = asked .before in
     let (answer, (keys, processor)) = done .perform .ensures in
-    rw (answer, keys, processor, placed .first-unit .ensures)
+    rw (answer, keys, processor, placed .unit-of .ensures, block .prefixed .ensures)
     (operated _ _ _ _ _ (judged .before .decode .ensures) (judged .verdict .ensures) (asked .stops .ensures) (clear .if1 .left))
 
 pub key-instruction-spec : {M : Type 1} → statement M
@@ -62,7 +70,9 @@ key-instruction-spec =
     stops-requires
     answer-of-requires
     returns
-    first-unit-requires
+    prefixed-requires
+    cast-unit-of
+    unit-of-requires
     perform-requires
     same-length
     returns-2)

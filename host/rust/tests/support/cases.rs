@@ -2,7 +2,7 @@
 
 use storage_unit::{Answer, Number, Processor, Request, Settings, Unit};
 
-use super::Lent;
+use super::{rule_carried, Lent};
 
 /// The state that the cases start from: storage 65,536, 2K units, extensions present,
 /// prefix 0, PSW key 0, zero keys, supervisor state, low-address protection off. The
@@ -56,16 +56,27 @@ pub fn expect<U: Unit>(
     assert!(lent.storage == after.storage, "storage after {request:?}");
 }
 
+/// The answer to a request of processor 0 that completes with this word.
+pub fn completed(before: &Lent, request: Request, word: u32) -> Answer {
+    Answer::completed(word, rule_carried(&request, before.processors[0].prefix))
+}
+
 /// The request completes with this word and leaves its buffer.
 pub fn completes<U: Unit>(before: &Lent, request: Request, buffer: &[u8], word: u32, after: &Lent) {
-    expect::<U>(
-        before,
-        request,
-        buffer,
-        Answer::completed(word),
-        buffer,
-        after,
-    );
+    let answer = completed(before, request, word);
+    expect::<U>(before, request, buffer, answer, buffer, after);
+}
+
+/// The fetch completes and leaves this in its buffer.
+pub fn fetches<U: Unit>(
+    before: &Lent,
+    request: Request,
+    buffer: &[u8],
+    fetched: &[u8],
+    after: &Lent,
+) {
+    let answer = completed(before, request, 0);
+    expect::<U>(before, request, buffer, answer, fetched, after);
 }
 
 /// The request is refused, and nothing changes.

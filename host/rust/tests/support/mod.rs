@@ -8,7 +8,7 @@ use std::env;
 use std::str::FromStr;
 
 use storage_unit::{
-    AccessKind, Answer, KeyInstruction, PrefixInstruction, Processor, Request, Settings, Unit,
+    AccessKind, Answer, KeyInstruction, PrefixInstruction, Processor, Request, Rule, Settings, Unit,
 };
 
 /// The number of 24-bit addresses.
@@ -123,6 +123,37 @@ pub fn absolute(real: u32, prefix: u32) -> u32 {
         0 => prefix + real,
         page if page == prefix / 4096 => real % 4096,
         _ => real,
+    }
+}
+
+/// The rule for a real address below 2^31.
+pub fn rule(real: u32, prefix: u32) -> Rule {
+    match real / 4096 {
+        0 => Rule::Zero,
+        page if page == prefix / 4096 => Rule::Prefix,
+        _ => Rule::Unchanged,
+    }
+}
+
+/// The operand of a key instruction that designates its block, and the real address of
+/// the block.
+pub fn block_of(instruction: &KeyInstruction) -> (u32, u32) {
+    match *instruction {
+        KeyInstruction::Isk { r2: operand, .. }
+        | KeyInstruction::Ssk { r2: operand, .. }
+        | KeyInstruction::Rrb { address: operand } => (operand, operand & 0x00FF_F800),
+        KeyInstruction::Iske { r2: operand, .. }
+        | KeyInstruction::Sske { r2: operand, .. }
+        | KeyInstruction::Rrbe { r2: operand } => (operand, operand & 0x7FFF_F000),
+    }
+}
+
+/// The rule that a completed request of a processor with this prefix carries.
+pub fn rule_carried(request: &Request, prefix: u32) -> Option<Rule> {
+    match request {
+        Request::Access { address, .. } => Some(rule(*address, prefix)),
+        Request::Key(instruction) => Some(rule(block_of(instruction).1, prefix)),
+        Request::Prefix(_) => None,
     }
 }
 

@@ -1,4 +1,4 @@
--- `pack` puts number, place and word side by side. Assumes nothing.
+-- `pack` puts number, rule, place and word side by side. Assumes nothing.
 use native.Mathlib.Omega.{arith}
 use Rattle.machine.proofs.Requests.{number-of-reason}
 use borrow.Author.Needs.{needs}
@@ -11,26 +11,35 @@ enum-known-answer c = search needs
 cast-result : tie.Need-cast-result
 cast-result c = search needs
 
+mul-result : tie.Need-mul-result
+mul-result c = search needs
+
+cast-result-2 : tie.Need-cast-result-2
+cast-result-2 c = search needs
+
+add-result : tie.Need-add-result
+add-result c = search needs
+
 enum-known-answer-2 : tie.Need-enum-known-answer-2
 enum-known-answer-2 c = search needs
 
 number-of-requires : tie.Need-number-of-requires
 number-of-requires c κs = search needs
 
-cast-result-2 : tie.Need-cast-result-2
-cast-result-2 c = search needs
-
-mul-result : tie.Need-mul-result
-mul-result c = rw (c .number-of .ensures) (omega (arith, number-of-reason (c .before .before .answer2 .given .0 .0) .1))
-
 cast-result-3 : tie.Need-cast-result-3
 cast-result-3 c = search needs
 
 mul-result-2 : tie.Need-mul-result-2
-mul-result-2 c = search needs
+mul-result-2 c = rw (c .number-of .ensures) (omega (arith, number-of-reason (c .before .before .answer2 .given .0 .0) .1))
 
-add-result : tie.Need-add-result
-add-result c = rw (c .number-of .ensures) (omega (arith, number-of-reason (c .before .before .answer2 .given .0 .0) .1))
+cast-result-4 : tie.Need-cast-result-4
+cast-result-4 c = search needs
+
+mul-result-3 : tie.Need-mul-result-3
+mul-result-3 c = search needs
+
+add-result-2 : tie.Need-add-result-2
+add-result-2 c = rw (c .number-of .ensures) (omega (arith, number-of-reason (c .before .before .answer2 .given .0 .0) .1))
 
 returns : tie.Need-returns
 returns c = rw (c .before .answer .given .1) (omega arith, omega arith)
@@ -44,12 +53,15 @@ pack-spec =
     (tie.spec
     enum-known-answer
     cast-result
+    mul-result
+    cast-result-2
+    add-result
     enum-known-answer-2
     number-of-requires
-    cast-result-2
-    mul-result
     cast-result-3
     mul-result-2
-    add-result
+    cast-result-4
+    mul-result-3
+    add-result-2
     returns
     returns-2)

@@ -20,7 +20,7 @@ returns c =
     let judged = stopped .before in
     let found = judged .before in
     rw (c .answer-of .ensures)
-    (refused-instruction _ _ _ _ _ tt (found .verdict .ensures) 0 (rw (judged .stops .ensures) at (stopped .if1 .taken)))
+    (refused-instruction _ _ _ _ _ tt (found .verdict .ensures) 0 0 (rw (judged .stops .ensures) at (stopped .if1 .taken)))
 
 complete-requires : tie.Need-complete-requires
 complete-requires c κs = search needs

@@ -1,8 +1,9 @@
 /*
  * Nanoseconds per request of two versions of the library in one process: before_request is
  * storage_unit_request of the older one, renamed. Batches of the same requests, at random addresses
- * and lengths, go to both in turns. The medians of the batches and the median of the ratios of
- * neighbouring batches are printed. host/compare builds and runs it.
+ * and lengths, go to both in turns. A batch is long, so that the processor does not learn its
+ * branches. The medians of the batches and the median of the ratios of neighbouring batches are
+ * printed. host/compare builds and runs it.
  */
 #define _POSIX_C_SOURCE 199309L
 #include "storage_unit.h"
@@ -13,8 +14,8 @@
 #include <time.h>
 
 #define STORAGE_LENGTH 1048576u
-#define REQUESTS       4096u
-#define ROUNDS         301u
+#define REQUESTS       65536u
+#define ROUNDS         51u
 
 typedef uint64_t Function(uint32_t, uint8_t *, size_t, uint8_t *, size_t, uint8_t *, size_t, uint32_t,
                           uint32_t, uint32_t, uint32_t, uint8_t *, size_t);

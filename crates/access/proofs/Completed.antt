@@ -13,7 +13,6 @@ use Rattle.machine.specs.declared.AccessKind.{AccessKind}
 use Rattle.machine.specs.declared.AccessKind.the-variants.{Fetch, Store}
 use Rattle.machine.specs.declared.Request.{Request}
 use Rattle.machine.specs.declared.Request.the-variants.{Access}
-use Rattle.machine.specs.declared.Answer.{Answer}
 use Rattle.machine.specs.declared.Verdict.{Verdict}
 use Rattle.machine.specs.declared.Verdict.the-variants.{Clear}
 use Rattle.machine.specs.Lists.{written}
@@ -22,7 +21,7 @@ use Rattle.machine.specs.Answers.{answerOf, stops}
 use Rattle.machine.specs.Prefixing.{byteAddress}
 use Rattle.machine.specs.Protection.{recorded}
 use Rattle.machine.specs.Table.{beforeProtection, verdict}
-use Rattle.machine.specs.Step.{outcome, storageLeft, bufferLeft, keysRecorded, completed, step}
+use Rattle.machine.specs.Step.{outcome, storageLeft, bufferLeft, keysRecorded, ruleGiven, completed, step}
 use Rattle.machine.proofs.Written.{written-same, written-after, written-once}
 use Rattle.machine.proofs.Verdicts.{stops-not}
 use Rattle.machine.proofs.BeforeProtection.{table-clear, AccessCleared, access-cleared, access-keyed}
@@ -124,14 +123,13 @@ module _ (s : Settings) (storage keys : List ℕ) (p : Processor) (kind : Access
   abbrev pub table : Verdict
   table = verdict s (length storage) keys p request (length buffer)
 
-  -- this answer and these lists are what the step gives and leaves
-  abbrev pub Performed : Answer → List ℕ → List ℕ → List ℕ → Type 0
-  Performed answer storage′ keys′ buffer′ = outcome answer storage′ keys′ p buffer′ ≡ step s storage keys p request buffer
+  -- the answer by v, and these lists, are what the step leaves
+  abbrev pub Performed : Verdict → List ℕ → List ℕ → List ℕ → Type 0
+  Performed v storage′ keys′ buffer′ = outcome (answerOf v 0 (ruleGiven p request)) storage′ keys′ p buffer′ ≡ step s storage keys p request buffer
 
-  -- after the last byte of an access that the table lets pass they are, with the rule of its first byte
+  -- after the last byte of an access that the table lets pass they are
   pub finished : {v : Verdict} {storage′ keys′ buffer′ : List ℕ} → v ≡ table → stops v ≡ false
-      → After s storage keys p kind address buffer count storage′ keys′ buffer′
-      → Performed (answerOf v 0 (spanAt s keys p address 0 .rule)) storage′ keys′ buffer′
+      → After s storage keys p kind address buffer count storage′ keys′ buffer′ → Performed v storage′ keys′ buffer′
   unfolding completed
   finished {v} found clear left =
       rw (stops-not v clear, left .storage-left, left .keys-left, left .buffer-left) (completed-request s storage keys p request buffer found clear)

@@ -1,4 +1,4 @@
--- The laws that answer the needs of `access`, `perform_in_one` and `perform_in_two`, from what the functions that these call ensure. An access in one
+-- The laws that answer the needs of `perform`, `perform_in_one` and `perform_in_two`, from what the functions that these call ensure. An access in one
 -- unit is one span after no bytes; one in two units is a second span after the first.
 -- Assumes nothing.
 use Prim.Native.Nat.{ℕ, _+_, _-_, _<_, _≤_}
@@ -12,10 +12,9 @@ use Rattle.machine.specs.declared.Settings.{Settings}
 use Rattle.machine.specs.declared.Processor.{Processor}
 use Rattle.machine.specs.declared.AccessKind.{AccessKind}
 use Rattle.machine.specs.declared.Request.the-variants.{Access}
-use Rattle.machine.specs.declared.Answer.{Answer}
 use Rattle.machine.specs.declared.Verdict.{Verdict}
 use Rattle.machine.specs.declared.Verdict.the-variants.{Clear}
-use Rattle.machine.specs.Answers.{answerOf, stops}
+use Rattle.machine.specs.Answers.{stops}
 use Rattle.machine.proofs.Verdicts.{stops-not}
 use Rattle.machine.proofs.Requests.{refused-request}
 use Rattle.access.specs.declared.span.Span.{Span}
@@ -28,10 +27,10 @@ use Rattle.access.proofs.Completed.{SpanCompleted, After, at-start, aft
 -- lines 64, 65 and 66: where the verdict found of them stops, it is the answer; where it doesn't, they are clear
 pub first-refused : (s : Settings) (storage keys : List ℕ) (p : Processor) (kind : AccessKind) (address count : ℕ) (buffer : List ℕ)
     {v : Verdict} {stopped : Bool} → v ≡ firstLines s (length storage) (length keys) p kind address count (length buffer) → stopped ≡ stops v
-    → stopped ≡ true → Performed s storage keys p kind address count buffer (answerOf v 0 0) storage keys buffer
+    → stopped ≡ true → Performed s storage keys p kind address count buffer v storage keys buffer
 first-refused s storage keys p kind address count buffer found decided stop =
     refused-request s storage keys p (Access kind address count) buffer
-    (refused-first s (length storage) keys p kind address count (length buffer) found (sym decided ∙ stop)) 0 0 (sym decided ∙ stop)
+    (refused-first s (length storage) keys p kind address count (length buffer) found (sym decided ∙ stop)) 0 _ (sym decided ∙ stop)
 
 pub first-passed : (s : Settings) (storageLength keyLength : ℕ) (p : Processor) (kind : AccessKind) (address count bufferLength : ℕ)
     {v : Verdict} {stopped : Bool} → v ≡ firstLines s storageLength keyLength p kind address count bufferLength → stopped ≡ stops v
@@ -41,8 +40,8 @@ first-passed s storageLength keyLength p kind address count bufferLength {v} fou
 -- where they are clear
 module _ (s : Settings) (storage keys : List ℕ) (p : Processor) (kind : AccessKind) (address count : ℕ) (buffer : List ℕ)
     (first : firstLines s (length storage) (length keys) p kind address count (length buffer) ≡ Clear) where
-  -- this answer and these lists are what the step gives and leaves
-  abbrev Left : Answer → List ℕ → List ℕ → List ℕ → Type 0
+  -- the answer by a verdict, and these lists, are what the step leaves
+  abbrev Left : Verdict → List ℕ → List ℕ → List ℕ → Type 0
   Left = Performed s storage keys p kind address count buffer
 
   -- n bytes of a span fit, being those from byte f of the access on, and the key of its unit is there
@@ -50,14 +49,13 @@ module _ (s : Settings) (storage keys : List ℕ) (p : Processor) (kind : Access
   SpanFits here f n = Fits (length storage) (here .absolute) (length buffer) f (here .real) n × (here .unit < length keys)
 
   -- in one unit
-  module _ (whole : count ≤ toUnitEnd s address) {here : Span} {v : Verdict} {answer : Answer} {stopped : Bool}
-      (spanned : here ≡ spanAt s keys p address 0) (tested : v ≡ linesOfOne (length storage) p kind here)
-      (answered : answer ≡ answerOf v 0 (here .rule)) (decided : stopped ≡ stops v) where
+  module _ (whole : count ≤ toUnitEnd s address) {here : Span} {v : Verdict} {stopped : Bool} (spanned : here ≡ spanAt s keys p address 0)
+      (tested : v ≡ linesOfOne (length storage) p kind here) (decided : stopped ≡ stops v) where
     one-found : v ≡ table s storage keys p kind address count buffer
     one-found = table-of-one s (length storage) keys p kind address count (length buffer) first whole spanned tested
 
-    pub one-refused : stopped ≡ true → Left answer storage keys buffer
-    one-refused stop = rw answered (refused-request s storage keys p (Access kind address count) buffer one-found 0 (here .rule) (sym decided ∙ stop))
+    pub one-refused : stopped ≡ true → Left v storage keys buffer
+    one-refused stop = refused-request s storage keys p (Access kind address count) buffer one-found 0 _ (sym decided ∙ stop)
 
     module _ (clear : stopped ≡ false) where
       one-clear : table s storage keys p kind address count buffer ≡ Clear
@@ -73,23 +71,21 @@ module _ (s : Settings) (storage keys : List ℕ) (p : Processor) (kind : Access
       one-fits = span-fits s storage keys p kind address count buffer one-clear 0 count one-positive (omega arith) one-unit spanned
 
       pub one-completed : {storage′ keys′ buffer′ : List ℕ} → SpanCompleted kind here 0 count storage keys buffer storage′ keys′ buffer′
-          → Left answer storage′ keys′ buffer′
+          → Left v storage′ keys′ buffer′
       one-completed completed =
           let start = at-start s storage keys p kind address buffer in
-          rw (answered, spanned)
-          (finished s storage keys p kind address count buffer one-found (sym decided ∙ clear)
-          (rw (zero-add count) at (after-span s storage keys p kind address buffer 0 count one-positive one-unit spanned start completed)))
+          finished s storage keys p kind address count buffer one-found (sym decided ∙ clear)
+          (rw (zero-add count) at (after-span s storage keys p kind address buffer 0 count one-positive one-unit spanned start completed))
 
   -- in two, byte k being the first in the second
-  module _ {k : ℕ} (end : (k ≡ toUnitEnd s address) × (k < count)) {here there : Span} {v : Verdict} {answer : Answer} {stopped : Bool}
+  module _ {k : ℕ} (end : (k ≡ toUnitEnd s address) × (k < count)) {here there : Span} {v : Verdict} {stopped : Bool}
       (spanned : here ≡ spanAt s keys p address 0) (spanned-there : there ≡ spanAt s keys p address k)
-      (tested : v ≡ linesOfTwo (length storage) p kind here k there) (answered : answer ≡ answerOf v 0 (here .rule))
-      (decided : stopped ≡ stops v) where
+      (tested : v ≡ linesOfTwo (length storage) p kind here k there) (decided : stopped ≡ stops v) where
     two-found : v ≡ table s storage keys p kind address count buffer
     two-found = table-of-two s (length storage) keys p kind address count (length buffer) first (end .0) (end .1) spanned spanned-there tested
 
-    pub two-refused : stopped ≡ true → Left answer storage keys buffer
-    two-refused stop = rw answered (refused-request s storage keys p (Access kind address count) buffer two-found 0 (here .rule) (sym decided ∙ stop))
+    pub two-refused : stopped ≡ true → Left v storage keys buffer
+    two-refused stop = refused-request s storage keys p (Access kind address count) buffer two-found 0 _ (sym decided ∙ stop)
 
     module _ (clear : stopped ≡ false) where
       two-clear : table s storage keys p kind address count buffer ≡ Clear
@@ -114,13 +110,12 @@ module _ (s : Settings) (storage keys : List ℕ) (p : Processor) (kind : Access
           span-fits s storage keys p kind address count buffer two-clear k (count - k) (omega arith) (omega arith) second-unit spanned-there
 
       pub two-completed : {xs ks ys storage′ keys′ buffer′ : List ℕ} → SpanCompleted kind here 0 k storage keys buffer xs ks ys
-          → SpanCompleted kind there k (count - k) xs ks ys storage′ keys′ buffer′ → Left answer storage′ keys′ buffer′
+          → SpanCompleted kind there k (count - k) xs ks ys storage′ keys′ buffer′ → Left v storage′ keys′ buffer′
       two-completed {xs} {ks} {ys} first-completed second-completed =
           let start = at-start s storage keys p kind address buffer in
           let first-k : After s storage keys p kind address buffer k xs ks ys =
           rw (zero-add k) at (after-span s storage keys p kind address buffer 0 k two-positive first-unit spanned start first-completed) in
           let all : k + (count - k) ≡ count = omega arith in
-          rw (answered, spanned)
-          (finished s storage keys p kind address count buffer two-found (sym decided ∙ clear)
+          finished s storage keys p kind address count buffer two-found (sym decided ∙ clear)
           (rw all at
-          (after-span s storage keys p kind address buffer k (count - k) (omega arith) second-unit spanned-there first-k second-completed)))
+          (after-span s storage keys p kind address buffer k (count - k) (omega arith) second-unit spanned-there first-k second-completed))

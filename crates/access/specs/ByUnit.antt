@@ -14,7 +14,7 @@ use Rattle.machine.specs.declared.Verdict.{Verdict}
 use Rattle.machine.specs.declared.Verdict.the-variants.{Clear, Stop}
 use Rattle.machine.specs.Numbers.{unitSize, unitOf, add24}
 use Rattle.machine.specs.Answers.{line, firstOf}
-use Rattle.machine.specs.Prefixing.{rule, byteAddress}
+use Rattle.machine.specs.Prefixing.{byteAddress}
 use Rattle.machine.specs.Protection.{forbidden}
 use Rattle.machine.specs.Table.{configuration, ownRecord, operandInvalid}
 use Rattle.access.specs.declared.span.Span.{Span}
@@ -29,7 +29,6 @@ spanAt s keys p address i =
     record {
       real = add24 address i;
       absolute = byteAddress p address i;
-      rule = rule (p .prefix) (add24 address i);
       unit = unitOf s (byteAddress p address i);
       key = getD keys (unitOf s (byteAddress p address i)) 0;
     }

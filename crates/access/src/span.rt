@@ -14,8 +14,6 @@ pub(crate) struct Span {
     pub(crate) real: u32,
     // The absolute address of its first byte.
     pub(crate) absolute: u32,
-    // The rule that prefixed it.
-    pub(crate) rule: u8,
     // The unit.
     pub(crate) unit: usize,
     // The unit's key.
@@ -34,13 +32,12 @@ pub(crate) fn span_at(settings: Settings, keys: &[u8], p: Processor, address: u3
     ensures { λ r. ⌜ r ≡ spanAt settings (now (keys .entry)) p address i ⌝ }
 {
     let real = add24(address, i);
-    let there = prefixed(p.prefix, real);
-    let unit = unit_of(settings, there.absolute as usize);
+    let absolute = prefixed(p.prefix, real).absolute;
+    let unit = unit_of(settings, absolute as usize);
     let key = key_of_unit(keys, unit);
     Span {
         real,
-        absolute: there.absolute,
-        rule: there.rule,
+        absolute,
         unit,
         key,
     }

@@ -89,7 +89,9 @@ module _ (s : Settings) (storage keys : List ℕ) (p : Processor) (buffer : List
   -- a completed key instruction, the rule for the real address of its block, without the bits that it ignores
   pub key-instruction-rule : (i : KeyInstruction) → answer (Key i) .number ≡ 0 → RuleFor (p .prefix) (blockAddress i) (answer (Key i) .rule)
   key-instruction-rule i done =
-      rw (carried (Key i) done, designated-address i) (rule-for (p .prefix) (blockAddress i) (prefix-small (Key i) done) (block-small i))
+      rw (carried (Key i) done)
+      (subst (λ x. RuleFor (p .prefix) (blockAddress i) (rule (p .prefix) x)) (sym (designated-address i))
+      (rule-for (p .prefix) (blockAddress i) (prefix-small (Key i) done) (block-small i)))
 
   -- a prefix instruction carries 0
   pub prefix-instruction-rule : (i : PrefixInstruction) → answer (Prefix i) .rule ≡ 0

@@ -1,4 +1,4 @@
--- `perform_in_one` answers by the verdict of its lines, and where that is clear it has completed its one span. Assumes nothing.
+-- `perform_in_one` returns the verdict of its lines, and where that is clear it has completed its one span. Assumes nothing.
 use mathlib.Core.Path.{refl}
 use borrow.Author.Needs.{needs}
 use Rattle.access.proofs.InUnits.{one-refused, one-fits, one-completed}
@@ -11,9 +11,6 @@ span-at-requires c κs = tt
 lines-of-one-requires : tie.Need-lines-of-one-requires
 lines-of-one-requires c κs = tt
 
-answer-of-requires : tie.Need-answer-of-requires
-answer-of-requires c κs = tt
-
 stops-requires : tie.Need-stops-requires
 stops-requires c κs = tt
 
@@ -23,22 +20,20 @@ same-length c = refl
 returns : tie.Need-returns
 returns c =
     let judged = c .before in
-    let answered = judged .before in
-    let tested = answered .before in
+    let tested = judged .before in
     let here = tested .before in
     let buffer-known = here .before .before in
     let storage-known = buffer-known .before .before in
     let start = storage-known .before in
     one-refused _ _ _ _ _ _ _ _ (start .pre .0) (start .pre .1) (here .span-at .ensures) (tested .lines-of-one .ensures)
-    (answered .answer-of .ensures) (judged .stops .ensures) (c .if1 .taken)
+    (judged .stops .ensures) (c .if1 .taken)
 
 complete-span-requires : tie.Need-complete-span-requires
 complete-span-requires c κs =
     let lent = c .before in
     let passed = lent .before .before in
     let judged = passed .before in
-    let answered = judged .before in
-    let tested = answered .before in
+    let tested = judged .before in
     let here = tested .before in
     let buffer-known = here .before .before in
     let storage-known = buffer-known .before .before in
@@ -46,7 +41,7 @@ complete-span-requires c κs =
     let a = start .args in
     one-fits (a .settings) (a .storage .now) (a .keys .now) (a .p) (a .kind) (a .address) (a .count) (a .buffer .now)
     (start .pre .0) (start .pre .1) (here .span-at .ensures) (tested .lines-of-one .ensures)
-    (answered .answer-of .ensures) (judged .stops .ensures) (passed .if1 .left)
+    (judged .stops .ensures) (passed .if1 .left)
 
 same-length-2 : tie.Need-same-length-2
 same-length-2 c = search needs
@@ -65,14 +60,13 @@ returns-2 c =
     let lent = completed .before .before in
     let passed = lent .before .before in
     let judged = passed .before in
-    let answered = judged .before in
-    let tested = answered .before in
+    let tested = judged .before in
     let here = tested .before in
     let buffer-known = here .before .before in
     let storage-known = buffer-known .before .before in
     let start = storage-known .before in
     one-completed _ _ _ _ _ _ _ _ (start .pre .0) (start .pre .1) (here .span-at .ensures) (tested .lines-of-one .ensures)
-    (answered .answer-of .ensures) (judged .stops .ensures) (passed .if1 .left) (completed .complete-span .ensures)
+    (judged .stops .ensures) (passed .if1 .left) (completed .complete-span .ensures)
 
 pub perform-in-one-spec : {M : Type 1} → statement M
 perform-in-one-spec =
@@ -80,7 +74,6 @@ perform-in-one-spec =
     (tie.spec
     span-at-requires
     lines-of-one-requires
-    answer-of-requires
     stops-requires
     same-length
     returns

@@ -1,4 +1,4 @@
--- `perform_in_two` answers by the verdict of its lines, and where that is clear it has completed its two spans. Assumes nothing.
+-- `perform_in_two` returns the verdict of its lines, and where that is clear it has completed its two spans. Assumes nothing.
 use mathlib.Core.Path.{refl}
 use native.Mathlib.Omega.{arith}
 use borrow.Author.Needs.{needs}
@@ -15,9 +15,6 @@ span-at-requires-2 c κs = tt
 lines-of-two-requires : tie.Need-lines-of-two-requires
 lines-of-two-requires c κs = tt
 
-answer-of-requires : tie.Need-answer-of-requires
-answer-of-requires c κs = tt
-
 stops-requires : tie.Need-stops-requires
 stops-requires c κs = tt
 
@@ -27,15 +24,14 @@ same-length c = refl
 returns : tie.Need-returns
 returns c =
     let judged = c .before in
-    let answered = judged .before in
-    let tested = answered .before in
+    let tested = judged .before in
     let there = tested .before in
     let here = there .before .before in
     let buffer-known = here .before .before in
     let storage-known = buffer-known .before .before in
     let start = storage-known .before in
     two-refused _ _ _ _ _ _ _ _ (start .pre .0) (start .pre .1) (here .span-at .ensures) (there .span-at2 .ensures) (tested .lines-of-two .ensures)
-    (answered .answer-of .ensures) (judged .stops .ensures) (c .if1 .taken)
+    (judged .stops .ensures) (c .if1 .taken)
 
 sub-rest : tie.Need-sub-rest
 sub-rest c = omega arith
@@ -45,8 +41,7 @@ complete-span-requires c κs =
     let lent = c .before in
     let passed = lent .before .before in
     let judged = passed .before in
-    let answered = judged .before in
-    let tested = answered .before in
+    let tested = judged .before in
     let there = tested .before in
     let here = there .before .before in
     let buffer-known = here .before .before in
@@ -55,7 +50,7 @@ complete-span-requires c κs =
     let a = start .args in
     first-fits (a .settings) (a .storage .now) (a .keys .now) (a .p) (a .kind) (a .address) (a .count) (a .buffer .now)
     (start .pre .0) (start .pre .1) (here .span-at .ensures) (there .span-at2 .ensures) (tested .lines-of-two .ensures)
-    (answered .answer-of .ensures) (judged .stops .ensures) (passed .if1 .left)
+    (judged .stops .ensures) (passed .if1 .left)
 
 complete-span-requires-2 : tie.Need-complete-span-requires-2
 complete-span-requires-2 c κs =
@@ -67,8 +62,7 @@ complete-span-requires-2 c κs =
     let lent = completed .before .before in
     let passed = lent .before .before in
     let judged = passed .before in
-    let answered = judged .before in
-    let tested = answered .before in
+    let tested = judged .before in
     let there = tested .before in
     let here = there .before .before in
     let buffer-known = here .before .before in
@@ -79,7 +73,7 @@ complete-span-requires-2 c κs =
     rw (kept .0, kept .1 .0, kept .1 .1 .1 .1 .0)
     (second-fits (a .settings) (a .storage .now) (a .keys .now) (a .p) (a .kind) (a .address) (a .count) (a .buffer .now)
     (start .pre .0) (start .pre .1) (here .span-at .ensures) (there .span-at2 .ensures) (tested .lines-of-two .ensures)
-    (answered .answer-of .ensures) (judged .stops .ensures) (passed .if1 .left))
+    (judged .stops .ensures) (passed .if1 .left))
 
 same-length-2 : tie.Need-same-length-2
 same-length-2 c = search needs
@@ -103,15 +97,14 @@ returns-2 c =
     let lent = completed .before .before in
     let passed = lent .before .before in
     let judged = passed .before in
-    let answered = judged .before in
-    let tested = answered .before in
+    let tested = judged .before in
     let there = tested .before in
     let here = there .before .before in
     let buffer-known = here .before .before in
     let storage-known = buffer-known .before .before in
     let start = storage-known .before in
     two-completed _ _ _ _ _ _ _ _ (start .pre .0) (start .pre .1) (here .span-at .ensures) (there .span-at2 .ensures) (tested .lines-of-two .ensures)
-    (answered .answer-of .ensures) (judged .stops .ensures) (passed .if1 .left) (completed .complete-span .ensures) (completed2 .complete-span2 .ensures)
+    (judged .stops .ensures) (passed .if1 .left) (completed .complete-span .ensures) (completed2 .complete-span2 .ensures)
 
 pub perform-in-two-spec : {M : Type 1} → statement M
 perform-in-two-spec =
@@ -120,7 +113,6 @@ perform-in-two-spec =
     span-at-requires
     span-at-requires-2
     lines-of-two-requires
-    answer-of-requires
     stops-requires
     same-length
     returns

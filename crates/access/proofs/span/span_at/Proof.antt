@@ -21,7 +21,7 @@ key-of-unit-requires c κs = tt
 returns : tie.Need-returns
 returns c =
     let unit-known = c .before in
-    let prefixed-known = unit-known .before .before in
+    let prefixed-known = unit-known .before in
     rw (c .key-of-unit .ensures, unit-known .unit-of .ensures, prefixed-known .prefixed .ensures, prefixed-known .before .add24 .ensures)
 
 pub span-at-spec : {M : Type 1} → statement M

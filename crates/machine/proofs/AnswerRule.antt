@@ -3,7 +3,7 @@
 -- the law of the three rules, and what is completed from the lines of the table.
 -- Assumes nothing.
 use Prim.Native.Nat.{ℕ, _/_, _<_, _≤_}
-use mathlib.Core.Path.{_≡_, refl, subst, sym, ap, _∙_}
+use mathlib.Core.Path.{_≡_, refl, subst, ap, _∙_}
 use mathlib.Core.Logic.{_≢_}
 use mathlib.Core.List.{List}
 use native.Mathlib.Decide.{decLe}
@@ -20,12 +20,13 @@ use Rattle.machine.specs.declared.Request.the-variants.{Access, Key, Pre
 use Rattle.machine.specs.Numbers.{add24}
 use Rattle.machine.specs.Answers.{Values}
 use Rattle.machine.specs.Prefixing.{rule}
+use Rattle.machine.specs.KeyInstructions.{designated}
 use Rattle.machine.specs.Step.{ruleGiven, completed, step}
 use Rattle.machine.proofs.Prefixing.{Means, first, own, other, rule-means}
 use Rattle.machine.proofs.AbsoluteAddress.{configured, record-valid}
 use Rattle.machine.proofs.BeforeProtection.{cleared}
 use Rattle.machine.proofs.Requests.{by-verdict, completed-step, completed-cleared, completed-number}
-use Rattle.machine.proofs.Sentences.{over-24-bits, blockAddress, designated-address}
+use Rattle.machine.proofs.Sentences.{over-24-bits, blockAddress}
 use Rattle.machine.proofs.Refusals.{completes}
 
 -- n is the rule for a real address: 1 in block 0, 2 in another block that is the prefix's, 3 in every other block
@@ -42,6 +43,11 @@ rule-for prefix real p r = go (rule-means prefix real)
     go (own z e a) = record { in-block-0 = λ h. absurd (omega arith); in-prefix-block = λ h e. refl; in-other-block = λ h d. absurd (d (omega arith)) }
     go (other z e a) = record { in-block-0 = λ h. absurd (omega arith); in-prefix-block = λ h q. absurd (e (omega arith)); in-other-block = λ h d. refl }
 
+rule-small : {prefix real n : ℕ} → Means prefix real n → n ≤ 3
+rule-small (first z a) = omega arith
+rule-small (own z e a) = omega arith
+rule-small (other z e a) = omega arith
+
 block-small : (i : KeyInstruction) → blockAddress i < 2147483648
 block-small (Isk r1 r2) = omega arith
 block-small (Ssk r1 r2) = omega arith
@@ -53,6 +59,15 @@ block-small (Rrbe r2) = omega arith
 module _ (s : Settings) (storage keys : List ℕ) (p : Processor) (buffer : List ℕ) where
   abbrev answer : Request → Values
   answer r = step s storage keys p r buffer .answer
+
+  -- the rule of a key instruction is that for its block
+  block-rule : (i : KeyInstruction) → ruleGiven p (Key i) ≡ rule (p .prefix) (blockAddress i)
+  block-rule (Isk r1 r2) = ap (rule (p .prefix)) (omega arith)
+  block-rule (Ssk r1 r2) = ap (rule (p .prefix)) (omega arith)
+  block-rule (Rrb address) = ap (rule (p .prefix)) (omega arith)
+  block-rule (Iske r1 r2) = ap (rule (p .prefix)) (omega arith)
+  block-rule (Sske r1 r2) = ap (rule (p .prefix)) (omega arith)
+  block-rule (Rrbe r2) = ap (rule (p .prefix)) (omega arith)
 
   -- the rule of a completed request is the rule given
   carried : (r : Request) → answer r .number ≡ 0 → answer r .rule ≡ ruleGiven p r
@@ -89,9 +104,18 @@ module _ (s : Settings) (storage keys : List ℕ) (p : Processor) (buffer : List
   -- a completed key instruction, the rule for the real address of its block, without the bits that it ignores
   pub key-instruction-rule : (i : KeyInstruction) → answer (Key i) .number ≡ 0 → RuleFor (p .prefix) (blockAddress i) (answer (Key i) .rule)
   key-instruction-rule i done =
-      rw (carried (Key i) done)
-      (subst (λ x. RuleFor (p .prefix) (blockAddress i) (rule (p .prefix) x)) (sym (designated-address i))
-      (rule-for (p .prefix) (blockAddress i) (prefix-small (Key i) done) (block-small i)))
+      rw (carried (Key i) done, block-rule i) (rule-for (p .prefix) (blockAddress i) (prefix-small (Key i) done) (block-small i))
+
+  -- the rule of every answer is at most 3
+  pub rule-at-most-3 : (r : Request) → answer r .rule ≤ 3
+  unfolding completed
+  rule-at-most-3 r =
+      by-verdict s storage keys p r buffer (λ o. o .answer .rule ≤ 3) (λ reason place e. omega arith) (λ e. done r)
+    where
+      done : (q : Request) → completed s storage keys p q buffer .answer .rule ≤ 3
+      done (Access kind address count) = rule-small (rule-means (p .prefix) (add24 address 0))
+      done (Key i) = rule-small (rule-means (p .prefix) (designated i))
+      done (Prefix i) = omega arith
 
   -- a prefix instruction carries 0
   pub prefix-instruction-rule : (i : PrefixInstruction) → answer (Prefix i) .rule ≡ 0

@@ -236,7 +236,7 @@ tells-6 (Access kind address count) = never
 tells-6 (Prefix i) = never
 
 -- the address of a block, said as above
-pub designated-address : (i : KeyInstruction) → designated i ≡ blockAddress i
+designated-address : (i : KeyInstruction) → designated i ≡ blockAddress i
 designated-address (Isk r1 r2) = omega arith
 designated-address (Ssk r1 r2) = omega arith
 designated-address (Rrb address) = omega arith

@@ -1,6 +1,6 @@
--- `prefixed` gives the rules' `prefixed`: by the laws of the three rules, in their order. Assumes nothing.
-use mathlib.Core.Path.{sym}
-use Rattle.machine.proofs.Prefixing.{rule-1, rule-2, rule-3}
+-- `prefixed` gives the rules' `prefixed`: each answer is that of the rule that applies, by arithmetic. Assumes nothing.
+use native.Mathlib.Omega.{arith}
+use Rattle.machine.proofs.Prefixing.{prefixed-is}
 use borrow.Author.Needs.{needs}
 use Rattle.prefixing.proofs.prefixed.Statement.{statement}
 use Rattle.prefixing.proofs.prefixed.Tie as tie
@@ -20,7 +20,10 @@ add-absolute c = search needs
 returns : tie.Need-returns
 returns c =
     let blocks = c .before in
-    rw (blocks .block-of2 .ensures) (sym (rule-1 _ _ (rw (blocks .before .block-of .ensures) at (c .if1 .taken))))
+    let block = blocks .before .block-of .ensures in
+    let prefix-block = blocks .block-of2 .ensures in
+    let a = blocks .before .before .args in
+    prefixed-is (a .prefix) (a .real) _ _ (omega (arith, block, prefix-block, c .if1 .taken))
 
 mul-absolute-2 : tie.Need-mul-absolute-2
 mul-absolute-2 c = search needs
@@ -33,14 +36,18 @@ returns-2 c =
     let other = c .before in
     let blocks = other .before in
     let block = blocks .before .block-of .ensures in
-    rw block (sym (rule-2 _ _ (rw block at (other .if1 .left)) (rw (block, blocks .block-of2 .ensures) at (c .if2 .taken))))
+    let prefix-block = blocks .block-of2 .ensures in
+    let a = blocks .before .before .args in
+    prefixed-is (a .prefix) (a .real) _ _ (omega (arith, block, prefix-block, other .if1 .left, c .if2 .taken))
 
 returns-3 : tie.Need-returns-3
 returns-3 c =
     let other = c .before in
     let blocks = other .before in
     let block = blocks .before .block-of .ensures in
-    sym (rule-3 _ _ (rw block at (other .if1 .left)) (rw (block, blocks .block-of2 .ensures) at (c .if2 .left)))
+    let prefix-block = blocks .block-of2 .ensures in
+    let a = blocks .before .before .args in
+    prefixed-is (a .prefix) (a .real) _ _ (omega (arith, block, prefix-block, other .if1 .left, c .if2 .left))
 
 pub prefixed-spec : {M : Type 1} → statement M
 prefixed-spec =

@@ -85,7 +85,7 @@ requestOf operation first second = getD (requests first second) operation (Acces
 
 -- an answer in one number: the word, the place in eight bits from 2^32 on, the rule in eight bits from 2^40 on, the number from 2^48 on
 abbrev pub packed : Values → ℕ
-packed v = v .number * 281474976710656 + v .rule * 1099511627776 + v .place % 256 * 4294967296 + v .word
+packed v = v .number * 281474976710656 + v .rule % 256 * 1099511627776 + v .place % 256 * 4294967296 + v .word
 
 -- number, place, word and rule of an answer in one number
 abbrev pub numberIn : ℕ → ℕ

@@ -56,7 +56,7 @@ pub(crate) fn pack(answer: Answer) -> u64
     ensures { λ r. ⌜ Packs r answer ⌝ }
 {
     match answer {
-        Answer::Completed { word, rule } => rule as u64 * 1099511627776 + word as u64,
+        Answer::Completed { word, rule } => rule as u64 % 256 * 1099511627776 + word as u64,
         Answer::Refused { reason, place } => number_of(reason) as u64 * 281474976710656
             + place as u64 % 256 * 4294967296,
     }

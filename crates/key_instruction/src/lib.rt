@@ -14,49 +14,38 @@ ghost use mathlib.Core.Path.{_≡_};
 ghost use mathlib.Core.List.{[]};
 ghost use lib.ListN.{length};
 ghost use Rattle.machine.specs.KeyInstructions.{wordGiven, keysLeft, codeLeft};
-ghost use Rattle.machine.specs.Step.{withCode, outcome, step};
+ghost use Rattle.machine.specs.Step.{outcome, step};
 ghost use Rattle.key_instruction.specs.Units.{Inside};
 
 mod checks;
 mod decode;
 mod operations;
 
-// An operation on the keys of unit u and, if on two, of unit u + 1, for a processor with the record p. The rule is what its answer carries.
-fn perform(
-    keys: &mut [u8],
-    p: Processor,
-    u: usize,
-    two: bool,
-    operation: KeyOperation,
-    rule: u8,
-) -> Served
+// What an operation gives: the word that comes back, and the condition code that is left.
+struct Operated {
+    word: u32,
+    code: u8,
+}
+
+// An operation on the keys of unit u and, if on two, of unit u + 1, the condition code being this one.
+fn perform(keys: &mut [u8], code: u8, u: usize, two: bool, operation: KeyOperation) -> Operated
     requires { ⌜ Inside (length (now keys)) u two ⌝ }
-    ensures { λ r. ⌜ r .answer ≡ Answer.Completed (wordGiven (now (keys .entry)) u two operation) rule ⌝ }
+    ensures { λ r. ⌜ r .word ≡ wordGiven (now (keys .entry)) u two operation ⌝ }
     ensures { λ r. ⌜ now (keys .exit) ≡ keysLeft (now (keys .entry)) u two operation ⌝ }
-    ensures { λ r. ⌜ r .processor ≡ withCode p (codeLeft (now (keys .entry)) u two operation (p .code)) ⌝ }
+    ensures { λ r. ⌜ r .code ≡ codeLeft (now (keys .entry)) u two operation code ⌝ }
 {
     match operation {
         KeyOperation::Insert { r1 } => {
             let word = operations::insert(keys, u, two, r1);
-            Served {
-                answer: Answer::Completed { word, rule },
-                processor: p,
-            }
+            Operated { word, code }
         }
         KeyOperation::Set { r1 } => {
             operations::set(keys, u, two, r1);
-            Served {
-                answer: Answer::Completed { word: 0, rule },
-                processor: p,
-            }
+            Operated { word: 0, code }
         }
         KeyOperation::Reset => {
-            let mut next = p;
-            next.code = operations::reset(keys, u, two);
-            Served {
-                answer: Answer::Completed { word: 0, rule },
-                processor: next,
-            }
+            let code = operations::reset(keys, u, two);
+            Operated { word: 0, code }
         }
     }
 }
@@ -85,5 +74,14 @@ pub fn key_instruction(
     let u = unit_of(settings, block.absolute as usize);
     let two = decoded.extended & !settings.four_k;
     let operation = decoded.operation;
-    perform(keys, p, u, two, operation, block.rule)
+    let operated = perform(keys, p.code, u, two, operation);
+    let mut processor = p;
+    processor.code = operated.code;
+    Served {
+        answer: Answer::Completed {
+            word: operated.word,
+            rule: block.rule,
+        },
+        processor,
+    }
 }

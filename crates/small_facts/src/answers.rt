@@ -8,7 +8,7 @@ pub(crate) struct Values {
     pub(crate) number: u32,
     pub(crate) place: u32,
     pub(crate) word: u32,
-    pub(crate) rule: u8,
+    pub(crate) rule: u32,
 }
 
 pub(crate) fn values_of(answer: Answer) -> Values

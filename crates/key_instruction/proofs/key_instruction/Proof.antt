@@ -36,8 +36,7 @@ unit-of-requires c κs = search needs
 
 perform-requires : tie.Need-perform-requires
 perform-requires c κs =
-    let read = c .before in
-    let placed = read .before .before in
+    let placed = c .before .before .before in
     let block = placed .before .before in
     let clear = block .before in
     let asked = clear .before in
@@ -51,14 +50,13 @@ same-length c = search needs
 returns-2 : tie.Need-returns-2
 returns-2 c =
     let done = c .before .before in
-    let read = done .before .before in
-    let placed = read .before .before in
+    let placed = done .before .before .before .before in
     let block = placed .before .before in
     let clear = block .before in
     let asked = clear .before in
     let judged = asked .before in
-    let (answer, (keys, processor)) = done .perform .ensures in
-    rw (answer, keys, processor, placed .unit-of .ensures, block .prefixed .ensures)
+    let (word, (keys, code)) = done .perform .ensures in
+    rw (word, keys, code, placed .unit-of .ensures, block .prefixed .ensures)
     (operated _ _ _ _ _ (judged .before .decode .ensures) (judged .verdict .ensures) (asked .stops .ensures) (clear .if1 .left))
 
 pub key-instruction-spec : {M : Type 1} → statement M

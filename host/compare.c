@@ -1,9 +1,9 @@
 /*
  * Nanoseconds per request of two versions of the library in one process: before_request is
- * storage_unit_request of the older one, renamed. Batches of the same requests, at random addresses
- * and lengths, go to both in turns. A batch is long, so that the processor does not learn its
- * branches. The medians of the batches and the median of the ratios of neighbouring batches are
- * printed. host/compare builds and runs it.
+ * storage_unit_request of the older one, renamed. Batches of requests, at random addresses and
+ * lengths, go to both in turns. Each is long and new, so that its branches cannot be learnt. The
+ * medians of the batches and the median of the ratios of neighbouring batches are printed.
+ * host/compare builds and runs it.
  */
 #define _POSIX_C_SOURCE 199309L
 #include "storage_unit.h"
@@ -189,8 +189,8 @@ static void compare(const struct row *row)
     static double before[ROUNDS], after[ROUNDS], ratio[ROUNDS];
     size_t i;
 
-    start(row);
     for (i = 0; i < ROUNDS; i++) {
+        start(row);
         if (i % 2 == 0) {
             before[i] = batch(before_request, row);
         }

@@ -70,10 +70,10 @@ pub fn key_instruction(
             processor: p,
         };
     }
-    let block = prefixed(p.prefix, decoded.block);
-    let u = unit_of(settings, block.absolute as usize);
     let two = decoded.extended & !settings.four_k;
     let operation = decoded.operation;
+    let block = prefixed(p.prefix, decoded.block);
+    let u = unit_of(settings, block.absolute as usize);
     let operated = perform(keys, p.code, u, two, operation);
     let mut processor = p;
     processor.code = operated.code;

@@ -39,18 +39,17 @@ pub(crate) fn set(keys: &mut [u8], u: usize, two: bool, r1: u32)
     }
 }
 
-// The reference bit becomes zero. The condition code is that of the key as it was.
+// The reference bit becomes zero. The condition code is that of the key as it was. One key is written twice, with the same value.
 pub(crate) fn reset(keys: &mut [u8], u: usize, two: bool) -> u8
     requires { ⌜ Inside (length (now keys)) u two ⌝ }
     ensures { λ r. ⌜ now (keys .exit) ≡ keysLeft (now (keys .entry)) u two KeyOperation.Reset ⌝ }
     ensures { λ r. ⌜ r ≡ codeOf (keyRead (now (keys .entry)) u two) ⌝ }
 {
+    let last = if two { u + 1 } else { u };
     let low = keys[u];
-    let key = key_read(keys, u, two);
-    let code = code_of(key);
+    let high = keys[last];
+    let code = code_of(joined(low, high));
     keys[u] = after_reset(low);
-    if two {
-        keys[u + 1] = after_reset(keys[u + 1]);
-    }
+    keys[last] = after_reset(high);
     code
 }

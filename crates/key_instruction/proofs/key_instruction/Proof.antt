@@ -36,9 +36,9 @@ unit-of-requires c κs = search needs
 
 perform-requires : tie.Need-perform-requires
 perform-requires c κs =
-    let placed = c .before .before .before in
+    let placed = c .before in
     let block = placed .before .before in
-    let clear = block .before in
+    let clear = block .before .before .before in
     let asked = clear .before in
     let judged = asked .before in
     rw (placed .unit-of .ensures, block .prefixed .ensures)
@@ -50,9 +50,9 @@ same-length c = search needs
 returns-2 : tie.Need-returns-2
 returns-2 c =
     let done = c .before .before in
-    let placed = done .before .before .before .before in
+    let placed = done .before .before in
     let block = placed .before .before in
-    let clear = block .before in
+    let clear = block .before .before .before in
     let asked = clear .before in
     let judged = asked .before in
     let (word, (keys, code)) = done .perform .ensures in

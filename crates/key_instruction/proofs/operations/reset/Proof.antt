@@ -1,18 +1,30 @@
 -- `reset` leaves the rules' keys and gives the rules' condition code: by whether it is one key or two. Assumes nothing.
 use mathlib.Core.Path.{ap, _∙_}
-use Rattle.machine.specs.Key.{afterReset, codeOf}
+use mathlib.Core.Logic.{⊎-elim}
+use native.Mathlib.Omega.{arith}
 use lib.ListN.{length-set}
+use Rattle.machine.specs.Key.{afterReset, codeOf}
 use Rattle.machine.specs.KeyInstructions.{keysLeft}
-use Rattle.key_instruction.proofs.Keys.{one-key, two-keys}
+use Rattle.machine.proofs.KeyBytes.{joined-with-itself}
+use Rattle.key_instruction.proofs.Keys.{one-key-twice, two-keys-read}
 use borrow.Author.Needs.{needs}
 use Rattle.key_instruction.proofs.operations.reset.Statement.{statement}
 use Rattle.key_instruction.proofs.operations.reset.Tie as tie
 
+add-last : tie.Need-add-last
+add-last c = search needs
+
 slice-read-low : tie.Need-slice-read-low
 slice-read-low c = search needs
 
-key-read-requires : tie.Need-key-read-requires
-key-read-requires c κs = search needs
+slice-read-high : tie.Need-slice-read-high
+slice-read-high c =
+    let last = c .before .before in
+    let (first, second) = last .before .before .pre in
+    ⊎-elim (λ (two, is). omega (arith, second (two .taken))) (λ (one, is). omega arith) (last .if1 .came)
+
+joined-requires : tie.Need-joined-requires
+joined-requires c κs = search needs
 
 code-of-requires : tie.Need-code-of-requires
 code-of-requires c κs = search needs
@@ -23,30 +35,14 @@ after-reset-requires c κs = search needs
 slice-write-keys : tie.Need-slice-write-keys
 slice-write-keys c = search needs
 
-add-after-reset : tie.Need-add-after-reset
-add-after-reset c = search needs
-
-slice-read-after-reset : tie.Need-slice-read-after-reset
-slice-read-after-reset c =
-    let two = c .before in
-    let low = two .before in
-    let read = low .before .before in
-    let first = read .before .before in
-    simp length-set (first .before .before .pre .1 (two .if1 .taken))
-
 after-reset-requires-2 : tie.Need-after-reset-requires-2
 after-reset-requires-2 c κs = search needs
 
-add-keys : tie.Need-add-keys
-add-keys c = search needs
-
 slice-write-keys-2 : tie.Need-slice-write-keys-2
 slice-write-keys-2 c =
-    let two = c .before .before in
-    let low = two .before in
-    let read = low .before .before in
-    let first = read .before .before in
-    simp length-set (first .before .before .pre .1 (two .if1 .taken))
+    let last = c .before .before .before .before .before .before in
+    let (first, second) = last .before .before .pre in
+    simp length-set (⊎-elim (λ (two, is). omega (arith, second (two .taken))) (λ (one, is). omega arith) (last .if1 .came))
 
 same-length : tie.Need-same-length
 same-length c = search needs
@@ -54,40 +50,31 @@ same-length c = search needs
 returns : tie.Need-returns
 unfolding keysLeft
 returns c =
-    let two = c .before .before in
-    let low = two .before in
-    let coded = low .before in (
-      rw (two .if1 .taken, c .after-reset2 .ensures, low .after-reset .ensures) (two-keys afterReset _ _),
-      coded .code-of .ensures ∙ ap codeOf (coded .before .key-read .ensures),
-    )
-
-same-length-2 : tie.Need-same-length-2
-same-length-2 c = search needs
-
-returns-2 : tie.Need-returns-2
-unfolding keysLeft
-returns-2 c =
     let low = c .before in
-    let coded = low .before in (
-      rw (c .if1 .left, low .after-reset .ensures) (one-key afterReset _ _),
-      coded .code-of .ensures ∙ ap codeOf (coded .before .key-read .ensures),
-    )
+    let coded = low .before in
+    let joined = coded .before in
+    let last = joined .before .before .before in
+    let code = coded .code-of .ensures ∙ ap codeOf (joined .joined .ensures) in
+    ⊎-elim
+    (λ (two, is). (rw (two .taken, c .after-reset2 .ensures, low .after-reset .ensures, is) (two-keys-read afterReset _ _), rw (two .taken) (rw is at code)))
+    (λ (one, is). (
+      rw (one .left, c .after-reset2 .ensures, low .after-reset .ensures, is) (one-key-twice afterReset _ _),
+      rw (one .left) (rw is at code ∙ ap codeOf (joined-with-itself _)),
+    ))
+    (last .if1 .came)
 
 pub reset-spec : {M : Type 1} → statement M
 reset-spec =
     tie.close
     (tie.spec
+    add-last
     slice-read-low
-    key-read-requires
+    slice-read-high
+    joined-requires
     code-of-requires
     after-reset-requires
     slice-write-keys
-    add-after-reset
-    slice-read-after-reset
     after-reset-requires-2
-    add-keys
     slice-write-keys-2
     same-length
-    returns
-    same-length-2
-    returns-2)
+    returns)

@@ -45,11 +45,11 @@ pub(crate) fn reset(keys: &mut [u8], u: usize, two: bool) -> u8
     ensures { λ r. ⌜ now (keys .exit) ≡ keysLeft (now (keys .entry)) u two KeyOperation.Reset ⌝ }
     ensures { λ r. ⌜ r ≡ codeOf (keyRead (now (keys .entry)) u two) ⌝ }
 {
-    let last = if two { u + 1 } else { u };
+    let second = if two { u + 1 } else { u };
     let low = keys[u];
-    let high = keys[last];
+    let high = keys[second];
     let code = code_of(joined(low, high));
     keys[u] = after_reset(low);
-    keys[last] = after_reset(high);
+    keys[second] = after_reset(high);
     code
 }

@@ -1,9 +1,10 @@
 -- `reset` leaves the rules' keys and gives the rules' condition code: by whether it is one key or two. Assumes nothing.
+use Prim.Native.Nat.{ℕ}
 use mathlib.Core.Path.{ap, _∙_}
 use mathlib.Core.Logic.{⊎-elim}
 use native.Mathlib.Omega.{arith}
-use lib.ListN.{length-set}
-use Rattle.machine.specs.Key.{afterReset, codeOf}
+use lib.ListN.{length-set, getD}
+use Rattle.machine.specs.Key.{afterReset, codeOf, joined}
 use Rattle.machine.specs.KeyInstructions.{keysLeft}
 use Rattle.machine.proofs.KeyBytes.{joined-with-itself}
 use Rattle.key_instruction.proofs.Keys.{one-key-twice, two-keys-read}
@@ -11,17 +12,17 @@ use borrow.Author.Needs.{needs}
 use Rattle.key_instruction.proofs.operations.reset.Statement.{statement}
 use Rattle.key_instruction.proofs.operations.reset.Tie as tie
 
-add-last : tie.Need-add-last
-add-last c = search needs
+add-second : tie.Need-add-second
+add-second c = search needs
 
 slice-read-low : tie.Need-slice-read-low
 slice-read-low c = search needs
 
 slice-read-high : tie.Need-slice-read-high
 slice-read-high c =
-    let last = c .before .before in
-    let (first, second) = last .before .before .pre in
-    ⊎-elim (λ (two, is). omega (arith, second (two .taken))) (λ (one, is). omega arith) (last .if1 .came)
+    let second = c .before .before in
+    let (first, next) = second .before .before .pre in
+    ⊎-elim (λ (two, is). omega (arith, next (two .taken))) (λ (one, is). omega arith) (second .if1 .came)
 
 joined-requires : tie.Need-joined-requires
 joined-requires c κs = search needs
@@ -40,9 +41,9 @@ after-reset-requires-2 c κs = search needs
 
 slice-write-keys-2 : tie.Need-slice-write-keys-2
 slice-write-keys-2 c =
-    let last = c .before .before .before .before .before .before in
-    let (first, second) = last .before .before .pre in
-    simp length-set (⊎-elim (λ (two, is). omega (arith, second (two .taken))) (λ (one, is). omega arith) (last .if1 .came))
+    let second = c .before .before .before .before .before .before in
+    let (first, next) = second .before .before .pre in
+    simp length-set (⊎-elim (λ (two, is). omega (arith, next (two .taken))) (λ (one, is). omega arith) (second .if1 .came))
 
 same-length : tie.Need-same-length
 same-length c = search needs
@@ -52,22 +53,27 @@ unfolding keysLeft
 returns c =
     let low = c .before in
     let coded = low .before in
-    let joined = coded .before in
-    let last = joined .before .before .before in
-    let code = coded .code-of .ensures ∙ ap codeOf (joined .joined .ensures) in
+    let read = coded .before in
+    let second = read .before .before .before in
+    let a = second .before .before .args in
+    let code = coded .code-of .ensures ∙ ap codeOf (read .joined .ensures) in
+    let code-at : ℕ → ℕ = λ i. codeOf (joined (getD (a .keys .now) (a .u) 0) (getD (a .keys .now) i 0)) in
     ⊎-elim
-    (λ (two, is). (rw (two .taken, c .after-reset2 .ensures, low .after-reset .ensures, is) (two-keys-read afterReset _ _), rw (two .taken) (rw is at code)))
+    (λ (two, is). (
+      rw (two .taken, c .after-reset2 .ensures, low .after-reset .ensures, is) (two-keys-read afterReset _ _),
+      rw (two .taken) (code ∙ ap code-at is),
+    ))
     (λ (one, is). (
       rw (one .left, c .after-reset2 .ensures, low .after-reset .ensures, is) (one-key-twice afterReset _ _),
-      rw (one .left) (rw is at code ∙ ap codeOf (joined-with-itself _)),
+      rw (one .left) (code ∙ ap code-at is ∙ ap codeOf (joined-with-itself _)),
     ))
-    (last .if1 .came)
+    (second .if1 .came)
 
 pub reset-spec : {M : Type 1} → statement M
 reset-spec =
     tie.close
     (tie.spec
-    add-last
+    add-second
     slice-read-low
     slice-read-high
     joined-requires

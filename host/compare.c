@@ -1,9 +1,9 @@
 /*
  * Nanoseconds per request of two versions of the library in one process: before_request is
  * storage_unit_request of the older one, renamed. Batches of requests, at random addresses and
- * lengths, go to both in turns. Each is long and new, so that its branches cannot be learnt. The
- * medians of the batches and the median of the ratios of neighbouring batches are printed.
- * host/compare builds and runs it.
+ * lengths, go to both in turns, the same to both. They are long, and new in each turn, so that the
+ * processor cannot learn their branches. The medians of the batches and the median of the ratios of
+ * neighbouring batches are printed. host/compare builds and runs it.
  */
 #define _POSIX_C_SOURCE 199309L
 #include "storage_unit.h"

@@ -149,12 +149,13 @@ static uint32_t rule(uint32_t operation, uint32_t first, uint32_t second)
     return storage_unit_rule(request(STORAGE_UNIT_EXTENSIONS, operation, first, second));
 }
 
-/* Each rule that is given. Number, place and word are read beside it as ever. */
+/* Each rule that is given; place and word beside a rule. */
 static void rules(void)
 {
     start();
     CHECK(rule(STORAGE_UNIT_FETCH, 4, 1) == STORAGE_UNIT_RULE_ZERO);
     CHECK(rule(STORAGE_UNIT_FETCH, 4096, 1) == STORAGE_UNIT_RULE_UNCHANGED);
+    CHECK(storage_unit_place(request(0, STORAGE_UNIT_FETCH, 4096, 1)) == 0);
     CHECK(rule(STORAGE_UNIT_SET_PREFIX, 4096, 0) == STORAGE_UNIT_RULE_NONE);
     CHECK(rule(STORAGE_UNIT_STORE_PREFIX, 0, 0) == STORAGE_UNIT_RULE_NONE);
     CHECK(rule(STORAGE_UNIT_STORE, 4095, 2) == STORAGE_UNIT_RULE_ZERO);

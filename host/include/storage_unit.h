@@ -151,7 +151,7 @@ extern "C" {
  *
  * Returns number, place, word and rule in one value, for storage_unit_number, storage_unit_place,
  * storage_unit_word and storage_unit_rule to take apart. Test the number, not the value: the value
- * of a completed request is not 0 as a whole.
+ * of a completed request need not be 0.
  *
  * With any number but STORAGE_UNIT_NUMBER_COMPLETED, no byte of storage, keys, records and buffer
  * has changed. When completed, a fetch or store has also set the reference bit, a store the change
@@ -196,10 +196,10 @@ static inline uint32_t storage_unit_word(uint64_t answer)
 }
 
 /*
- * The rule of an answer: which rule of prefixing gave the absolute address of the first address
- * that a completed fetch, store or key instruction names, which is that of the first byte of an
- * access, or of the block of a key instruction. One of STORAGE_UNIT_RULE_..., and
- * STORAGE_UNIT_RULE_NONE for every other answer.
+ * The rule of an answer. For a completed fetch, store or key instruction it is the rule of
+ * prefixing for the first address that it names: that of the first byte of an access, or that of
+ * the block of a key instruction. One of STORAGE_UNIT_RULE_...; STORAGE_UNIT_RULE_NONE for every
+ * other answer.
  */
 static inline uint32_t storage_unit_rule(uint64_t answer)
 {

@@ -39,7 +39,7 @@ module _ (s : Settings) (storage keys : List ℕ) (p : Processor) (r : Request) 
   step-answer-is-read w =
       omega (arith, place-below-256 s storage keys p r buffer, rule-at-most-3 s storage keys p buffer r)
 
-  -- a refusal has no rule: who takes sixteen bits for the place reads the same place
+  -- a refusal has no rule, so that a reader that takes sixteen bits for its place reads the same place
   pub refusal-place-in-sixteen-bits : answer .number ≢ 0 → packed answer / 4294967296 % 65536 ≡ answer .place
   refusal-place-in-sixteen-bits d =
       let place = place-below-256 s storage keys p r buffer in

@@ -27,7 +27,7 @@ struct Operated {
     code: u8,
 }
 
-// An operation on the keys of unit u and, if on two, of unit u + 1, the condition code being this one.
+// An operation on the keys of unit u and, if on two, of unit u + 1. `code` is the condition code before it.
 fn perform(keys: &mut [u8], code: u8, u: usize, two: bool, operation: KeyOperation) -> Operated
     requires { ⌜ Inside (length (now keys)) u two ⌝ }
     ensures { λ r. ⌜ r .word ≡ wordGiven (now (keys .entry)) u two operation ⌝ }

@@ -39,7 +39,8 @@ pub(crate) fn set(keys: &mut [u8], u: usize, two: bool, r1: u32)
     }
 }
 
-// The reference bit becomes zero. The condition code is that of the key as it was. One key is written twice, with the same value.
+// The reference bit becomes zero. The condition code is that of the key as it was. One key is written twice, with the same value,
+// for speed (docs/BENCHMARK.md).
 pub(crate) fn reset(keys: &mut [u8], u: usize, two: bool) -> u8
     requires { ⌜ Inside (length (now keys)) u two ⌝ }
     ensures { λ r. ⌜ now (keys .exit) ≡ keysLeft (now (keys .entry)) u two KeyOperation.Reset ⌝ }

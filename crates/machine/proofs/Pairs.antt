@@ -2,7 +2,7 @@
 -- lookup in a list, by its elements one after the other, come first. Assumes nothing.
 use Prim.Native.Nat.{ℕ, zero, suc, _≤_, _<_}
 use mathlib.Core.Path.{_≡_, refl, sym, ap, _∙_}
-use mathlib.Core.Bool.{Bool, true, false, cond}
+use mathlib.Core.Bool.{Bool, true, false, cond, not}
 use mathlib.Core.Logic.{_≢_}
 use mathlib.Core.List.{List, [], _∷_}
 use mathlib.Core.Option.{Option, none, some}
@@ -15,11 +15,15 @@ use borrow.Author.Tests.{ltb-true, le-ltb}
 use Rattle.machine.specs.declared.Settings.{Settings}
 use Rattle.machine.specs.declared.Processor.{Processor}
 use Rattle.machine.specs.declared.Request.{Request}
+use Rattle.machine.specs.declared.Reason.the-variants.{Configuration, Record}
+use Rattle.machine.specs.declared.Verdict.the-variants.{Stop}
 use Rattle.machine.specs.Lists.{recordOf}
-use Rattle.machine.specs.Answers.{Values, values, answerOf}
+use Rattle.machine.specs.Numbers.{lengthsValid}
+use Rattle.machine.specs.Answers.{Values, values, answerOf, line, firstOf}
 use Rattle.machine.specs.Step.{step}
 use Rattle.machine.specs.Pair.{PairOutcome, putBack, withoutRecord, served, pairStep}
 use Rattle.machine.proofs.Requests.{refused-changes-nothing}
+use Rattle.machine.proofs.AnswerRule.{refused-rule}
 
 -- Lists by lookup.
 module _ {A : Type 0} where
@@ -112,6 +116,17 @@ module _ (s : Settings) (storage keys : List ℕ) (ps : List Processor) (n : ℕ
   pair-refused-changes-nothing =
       by-record (λ o. o .answer .number ≢ 0 → o ≡ unchanged (o .answer)) (λ e h. refl)
       (λ p e h. rw (refused-changes-nothing s storage keys p r buffer h, lookup-put-back ps n p (has-record ps n p e .1)))
+
+  -- nor has the answer a rule
+  pub pair-refused-rule : after .answer .number ≢ 0 → after .answer .rule ≡ 0
+  unfolding firstOf line
+  pair-refused-rule =
+      by-record (λ o. o .answer .number ≢ 0 → o .answer .rule ≡ 0) (λ e h. no-rule (lengthsValid s (length storage) (length keys)))
+      (λ p e. refused-rule s storage keys p buffer r)
+    where
+      no-rule : (b : Bool) → values (answerOf (firstOf (line Configuration (not b)) (Stop Record 0)) 0 0) .rule ≡ 0
+      no-rule true = refl
+      no-rule false = refl
 
   -- no record but the processor's own changes
   pub other-record-stays : (m : ℕ) → m ≢ n → getElem? (after .processors) m ≡ getElem? ps m

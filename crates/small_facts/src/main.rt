@@ -74,7 +74,7 @@ fn set_key() {
     show(b"; number %n\n", key(odd));
 }
 
-// Document 02.
+// Document 02: the example of W2, and the rules of W6.
 fn examples() {
     let rrbe = KeyInstruction::Rrbe { r2: 0 };
     show(b"W2 code %c keys %k and %s\n", key(rrbe).keys(0x84, 0x52));

@@ -51,7 +51,8 @@ fn verdict(
 
 // What a completed prefix instruction gives and leaves.
 fn complete(p: Processor, instruction: PrefixInstruction) -> Served
-    ensures { λ r. ⌜ (r .answer ≡ Answer.Completed (prefixGiven p instruction) (ruleGiven p (Request.Prefix instruction))) × (r .processor ≡ recordLeft p instruction) ⌝ }
+    ensures { λ r. ⌜ (r .answer ≡ Answer.Completed (prefixGiven p instruction) (ruleGiven p (Request.Prefix instruction)))
+        × (r .processor ≡ recordLeft p instruction) ⌝ }
 {
     match instruction {
         PrefixInstruction::SetPrefix { word } => {

@@ -239,7 +239,8 @@ impl Request {
 ///
 /// Program exceptions have the interruption codes and the names of the manual.
 #[derive(Clone, Copy, Debug, PartialEq, Eq, PartialOrd, Ord, Hash)]
-#[repr(u16)]
+// One byte, so that an `Answer` has eight and comes back in a register.
+#[repr(u8)]
 pub enum Number {
     /// 0: the request is completed.
     Completed = 0,

@@ -4,7 +4,8 @@
 //! Unless a fact says otherwise: storage 65,536, 2K units, extensions present,
 //! prefix 0, PSW key 0, zero keys, supervisor state, low-address protection off.
 //! Each fact states the whole outcome: the answer, the buffer, and the state, which
-//! is the state before except for what the fact changes.
+//! is the state before except for what the fact changes. Most cases of W6 look at number and
+//! rule only.
 
 mod support;
 
@@ -312,7 +313,7 @@ fn w2<U: Unit>() {
     completes::<U>(&before, request, &[], 0, &after);
 }
 
-/// W6: with prefix zero, real 4 goes by rule 1 and real 4096 by rule 3.
+/// W6: with prefix zero, real 4 and 4095 go by rule 1 and real 4096 by rule 3.
 fn w6_prefix_zero<U: Unit>() {
     real_is_absolute::<U>(&usual(), 4, 4, Rule::Zero);
     real_is_absolute::<U>(&usual(), 4095, 4095, Rule::Zero);
@@ -380,7 +381,7 @@ fn w6_block<U: Unit>() {
     }
 }
 
-/// W6: every other answer carries 0: refusals, also after addresses were translated, SET
+/// W6: every other answer carries 0: refusals, also 4, which is found after prefixing; SET
 /// PREFIX and STORE PREFIX.
 fn w6_none<U: Unit>() {
     let mut before = with_prefix(8192);

@@ -142,7 +142,7 @@ const EVENTS: [(Event, &str); 36] = [
     ),
     (
         Event::IgnoredBitsUnderAnotherRule,
-        "key instruction completed, by another prefix rule without its ignored bits",
+        "key instruction completed, its ignored bits under another prefix rule",
     ),
     (
         Event::PrefixAtLastBlock,

@@ -24,7 +24,7 @@ Function before_request;
 
 enum { ANYWHERE, ONE_UNIT, TWO_UNITS };
 
-/* A kind of request: `count` 0 is a random count. */
+/* A kind of request: `count` 0 is a random count. Each answers with `number`. */
 struct row {
     const char *name;
     uint32_t settings;
@@ -36,6 +36,7 @@ struct row {
 };
 
 #define DONE STORAGE_UNIT_NUMBER_COMPLETED
+#define KEYED UINT32_MAX /* completed, or refused by the key */
 #define K2   STORAGE_UNIT_EXTENSIONS
 #define K4   (STORAGE_UNIT_EXTENSIONS | STORAGE_UNIT_4K)
 
@@ -51,6 +52,8 @@ static const struct row rows[] = {
     {"store 1 to 256 bytes", K2, STORAGE_UNIT_STORE, 0, ANYWHERE, 8, DONE},
     {"store 256 bytes over two units", K2, STORAGE_UNIT_STORE, 256, TWO_UNITS, 8, DONE},
     {"store 16 bytes, refused", K2, STORAGE_UNIT_STORE, 16, ONE_UNIT, 3, STORAGE_UNIT_NUMBER_PROTECTION},
+    {"fetch 16 bytes, random keys", K2, STORAGE_UNIT_FETCH, 16, ONE_UNIT, 8, KEYED},
+    {"store 16 bytes, random keys", K2, STORAGE_UNIT_STORE, 16, ONE_UNIT, 8, KEYED},
     {"ISK", K2, STORAGE_UNIT_ISK, 0, ANYWHERE, 8, DONE},
     {"SSK", K2, STORAGE_UNIT_SSK, 0, ANYWHERE, 8, DONE},
     {"RRB", K2, STORAGE_UNIT_RRB, 0, ANYWHERE, 8, DONE},
@@ -118,13 +121,17 @@ static void make(const struct row *row, size_t i)
     }
 }
 
-/* Random keys with access control 8. */
-static void make_keys(void)
+/*
+ * Keys with access control 8, random in reference and change bit; where keys decide, in the
+ * fetch-protection bit too, and half of them with access control 9.
+ */
+static void make_keys(const struct row *row)
 {
+    uint32_t random_bits = row->number == KEYED ? 0x1E : 0x06;
     size_t i;
 
     for (i = 0; i < sizeof keys; i++) {
-        keys[i] = (uint8_t)(0x80 | (below(4) << 1));
+        keys[i] = (uint8_t)(0x80 | (below(32) & random_bits));
     }
 }
 
@@ -133,7 +140,7 @@ static void start(const struct row *row)
 {
     size_t i;
 
-    make_keys();
+    make_keys(row);
     for (i = 0; i < REQUESTS; i++) {
         make(row, i);
     }
@@ -149,6 +156,15 @@ static double now(void)
     return (double)time.tv_sec * 1e9 + (double)time.tv_nsec;
 }
 
+/* An answer with this number is one that the row asks for. */
+static int expected(const struct row *row, uint32_t number)
+{
+    if (row->number == KEYED) {
+        return number == DONE || number == STORAGE_UNIT_NUMBER_PROTECTION;
+    }
+    return number == row->number;
+}
+
 /* Nanoseconds for each request of a batch. Every one answers with the number of its row. */
 static double batch(Function *function, const struct row *row)
 {
@@ -161,7 +177,7 @@ static double batch(Function *function, const struct row *row)
         uint64_t answer = function(row->settings, storage, sizeof storage, keys, key_count, records,
                                    sizeof records, 0, row->operation, first[i], second[i], buffer,
                                    sizeof buffer);
-        other += storage_unit_number(answer) != row->number;
+        other += !expected(row, storage_unit_number(answer));
     }
     ended = now();
     if (other != 0) {

@@ -19,6 +19,7 @@ pub mod Named
 -- The rules held to the sentences of the documents: the table, key and prefix instructions, and rows computed
 pub mod TableLines
 pub mod Sentences
+pub mod Summary
 pub mod Refusals
 pub mod Instructions
 pub mod PrefixInstructions

@@ -5,6 +5,7 @@ ghost use mathlib.Core.Path.{_≡_};
 ghost use Prim.Native.Nat.{_<_, max};
 ghost use Rattle.machine.specs.Key.{keyInWord, afterReset, codeOf, joined as joinedOf};
 ghost use Rattle.machine.specs.Protection.{permitted as isPermitted, lowProtected, forbidden as isForbidden, recorded as recordedBy};
+ghost use Rattle.storage_key.specs.Permissions.{entryFor};
 
 // The key in bits 24-30 of a register word.
 pub fn key_in(word: u32) -> u8
@@ -54,14 +55,51 @@ pub fn joined(low: u8, high: u8) -> u8
     low / 8 * 8 + referenced * 4 + changed * 2
 }
 
+// Who may fetch and store: 512 entries of two bits, sixteen to a word, from left to right. The entry for an access key and a storage key is
+// number access key x 32 + the five leading bits of the storage key; its left bit says whether store is permitted, its right bit whether
+// fetch is. So each access key has a row, and in it each value of the access-control bits a hexadecimal digit, with the entries for
+// fetch-protection bit 0 and 1: F permits all of it, 4 no more than to fetch where that bit is 0.
+const PERMISSIONS: [[u32; 2]; 16] = [
+    [0xFFFFFFFF, 0xFFFFFFFF],
+    [0x4F444444, 0x44444444],
+    [0x44F44444, 0x44444444],
+    [0x444F4444, 0x44444444],
+    [0x4444F444, 0x44444444],
+    [0x44444F44, 0x44444444],
+    [0x444444F4, 0x44444444],
+    [0x4444444F, 0x44444444],
+    [0x44444444, 0xF4444444],
+    [0x44444444, 0x4F444444],
+    [0x44444444, 0x44F44444],
+    [0x44444444, 0x444F4444],
+    [0x44444444, 0x4444F444],
+    [0x44444444, 0x44444F44],
+    [0x44444444, 0x444444F4],
+    [0x44444444, 0x4444444F],
+];
+
+// The entry for an access key and a storage key. An access key over 15 has no row and matches no storage key: its entry is that of access
+// key 1 and access control 0, with the fetch-protection bit of the storage key.
+fn entry(access_key: u8, key: u8) -> u32
+    ensures { λ r. ⌜ r ≡ entryFor «access_key» key ⌝ }
+{
+    let leading = key as usize / 8;
+    let place = if access_key < 16 {
+        access_key as usize * 32 + leading
+    } else {
+        32 + leading % 2
+    };
+    (PERMISSIONS[place / 32][place / 16 % 2] >> (30 - place % 16 * 2)) % 4
+}
+
 // The access key and the storage key permit an access.
 pub fn permitted(kind: AccessKind, access_key: u8, key: u8) -> bool
     ensures { λ r. ⌜ r ≡ isPermitted kind «access_key» key ⌝ }
 {
-    let matches = (access_key == 0) | (access_key == key / 16 % 16);
+    let entry = entry(access_key, key);
     match kind {
-        AccessKind::Fetch => matches | (key / 8 % 2 == 0),
-        AccessKind::Store => matches,
+        AccessKind::Fetch => entry % 2 == 1,
+        AccessKind::Store => entry / 2 % 2 == 1,
     }
 }
 

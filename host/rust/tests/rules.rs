@@ -63,12 +63,6 @@ fn with_4k_units() -> Lent {
     lent
 }
 
-/// The answer to one request in this state, with a buffer of this length.
-fn answer<U: Unit>(before: &Lent, processor: u32, request: Request, buffer: usize) -> Answer {
-    let mut lent = before.clone();
-    lent.request::<U>(processor, &request, &mut vec![0; buffer])
-}
-
 /// Expects this number with place 0 for each step. A state with many faults loses one
 /// fault in each step.
 fn falls_through<U: Unit>(steps: &[(Lent, Request, usize, Number)]) {
@@ -615,28 +609,6 @@ fn access_within_a_4k_unit<U: Unit>() {
     completes::<U>(&before, Request::store(2047, 2), &new_bytes(2), 0, &after);
 }
 
-/// Only PSW key 0 matches every key; access-control bits of zero match nothing else.
-fn keys_that_match<U: Unit>() {
-    for psw_key in 0..16_u8 {
-        for access_control in 0..16_u8 {
-            for low_bits in 0..16_u8 {
-                let mut before = usual();
-                before.keys[0] = access_control << 4 | low_bits;
-                before.processors[0].psw_key = psw_key;
-                let matches = psw_key == 0 || psw_key == access_control;
-                let fetch = answer::<U>(&before, 0, Request::fetch(0, 1), 1);
-                let store = answer::<U>(&before, 0, Request::store(0, 1), 1);
-                let fetch_protected = low_bits & 8 != 0;
-                assert_eq!(
-                    fetch.number == Number::Completed,
-                    matches || !fetch_protected
-                );
-                assert_eq!(store.number == Number::Completed, matches);
-            }
-        }
-    }
-}
-
 /// Completed accesses put bit 7 of each key to zero, refused ones leave it.
 fn bit_7_and_accesses<U: Unit>() {
     let mut before = usual();
@@ -1054,7 +1026,6 @@ for_each_unit! {
     prefix_stays_inside
     access_to_the_end_of_a_unit
     access_within_a_4k_unit
-    keys_that_match
     bit_7_and_accesses
     low_address_protection
     accesses_in_problem_state

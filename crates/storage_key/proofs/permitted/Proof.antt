@@ -1,8 +1,11 @@
--- `permitted` is the rules' test: by the kind of access. Assumes nothing.
-use Rattle.machine.specs.Protection.{permitted}
+-- `permitted` is the rules' test: each kind of access reads its bit of the entry. Assumes nothing.
 use borrow.Author.Needs.{needs}
+use Rattle.storage_key.proofs.Permissions.{fetch-bit, store-bit}
 use Rattle.storage_key.proofs.permitted.Statement.{statement}
 use Rattle.storage_key.proofs.permitted.Tie as tie
+
+entry-requires : tie.Need-entry-requires
+entry-requires c κs = search needs
 
 enum-told : tie.Need-enum-told
 enum-told c = search needs
@@ -11,12 +14,10 @@ enum-told-2 : tie.Need-enum-told-2
 enum-told-2 c = search needs
 
 returns : tie.Need-returns
-unfolding permitted
-returns c = rw (c .enum-told .given .1)
+returns c = rw (c .before .before .entry .ensures, c .enum-told .given .1) (fetch-bit _ _)
 
 returns-2 : tie.Need-returns-2
-unfolding permitted
-returns-2 c = rw (c .enum-told2 .given .1)
+returns-2 c = rw (c .before .before .entry .ensures, c .enum-told2 .given .1) (store-bit _ _)
 
 pub permitted-spec : {M : Type 1} → statement M
-permitted-spec = tie.close (tie.spec enum-told enum-told-2 returns returns-2)
+permitted-spec = tie.close (tie.spec entry-requires enum-told enum-told-2 returns returns-2)

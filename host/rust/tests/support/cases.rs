@@ -104,6 +104,12 @@ pub fn with_prefix(prefix: u32) -> Lent {
     lent
 }
 
+/// The answer to one request in this state, with a buffer of this length.
+pub fn answer<U: Unit>(before: &Lent, processor: u32, request: Request, buffer: usize) -> Answer {
+    let mut lent = before.clone();
+    lent.request::<U>(processor, &request, &mut vec![0; buffer])
+}
+
 /// Makes one test for each named case and each implementation. A case is a function
 /// with the implementation as its type parameter.
 #[macro_export]

@@ -1,0 +1,96 @@
+//! The manual's summary of protection action against the table of permissions in the source
+//! of `storage_key`, and against the answers of each implementation.
+
+mod support;
+
+use storage_unit::{Number, Request, Unit};
+
+use support::cases::*;
+
+/// A line of "Summary of Protection Action", page 3-8 of the manual.
+struct Line {
+    fetch_protection_bit: u8,
+    keys_match: bool,
+    fetch_permitted: bool,
+    store_permitted: bool,
+}
+
+const fn line(bit: u8, keys_match: bool, fetch: bool, store: bool) -> Line {
+    Line {
+        fetch_protection_bit: bit,
+        keys_match,
+        fetch_permitted: fetch,
+        store_permitted: store,
+    }
+}
+
+const SUMMARY: [Line; 4] = [
+    line(0, true, true, true),
+    line(0, false, true, false),
+    line(1, true, true, true),
+    line(1, false, false, false),
+];
+
+/// The line for an access key and a storage key.
+fn line_for(access_key: u8, key: u8) -> &'static Line {
+    let access_control = key >> 4;
+    let keys_match = access_control == access_key || access_key == 0;
+    let applies =
+        |line: &&Line| line.fetch_protection_bit == (key >> 3 & 1) && line.keys_match == keys_match;
+    SUMMARY.iter().find(applies).expect("a line of the summary")
+}
+
+/// The table as the source has it: a row of two words for each access key, and in a word two
+/// bits for each value of the five leading key bits.
+fn printed() -> String {
+    let mut table = String::new();
+    for access_key in 0..16 {
+        let mut words = [0_u32; 2];
+        for leading_bits in 0..32 {
+            let line = line_for(access_key, leading_bits << 3);
+            let entry = u32::from(line.fetch_permitted) + 2 * u32::from(line.store_permitted);
+            let word = &mut words[usize::from(leading_bits) / 16];
+            *word = *word << 2 | entry;
+        }
+        table += &format!("    [0x{:08X}, 0x{:08X}],\n", words[0], words[1]);
+    }
+    table
+}
+
+#[test]
+fn table_in_the_source() {
+    let source = include_str!("../../../crates/storage_key/src/lib.rt");
+    let begin = "const PERMISSIONS: [[u32; 2]; 16] = [\n";
+    let (_, after) = source.split_once(begin).expect("the table");
+    let (table, _) = after.split_once("];\n").expect("the end of the table");
+    print!("{}", printed());
+    assert_eq!(table, printed());
+}
+
+/// Only access key 0 matches every storage key, and bits 5-7 of a storage key do not matter.
+fn each_pair_of_keys<U: Unit>() {
+    for access_key in 0..16 {
+        for key in 0..=255 {
+            let mut before = usual();
+            before.keys[0] = key;
+            before.processors[0].psw_key = access_key;
+            let line = line_for(access_key, key);
+            for (request, permitted) in [
+                (Request::fetch(0, 1), line.fetch_permitted),
+                (Request::store(0, 1), line.store_permitted),
+            ] {
+                let number = if permitted {
+                    Number::Completed
+                } else {
+                    Number::Protection
+                };
+                let given = answer::<U>(&before, 0, request, 1);
+                assert_eq!(given.number, number, "{access_key} {key} {request:?}");
+            }
+        }
+    }
+}
+
+for_each_unit! {
+    each_pair_of_keys
+}

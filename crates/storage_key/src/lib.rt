@@ -5,7 +5,6 @@ ghost use mathlib.Core.Path.{_≡_};
 ghost use Prim.Native.Nat.{_<_, max};
 ghost use Rattle.machine.specs.Key.{keyInWord, afterReset, codeOf, joined as joinedOf};
 ghost use Rattle.machine.specs.Protection.{permitted as isPermitted, lowProtected, forbidden as isForbidden, recorded as recordedBy};
-ghost use Rattle.storage_key.specs.Permissions.{entryFor};
 
 // The key in bits 24-30 of a register word.
 pub fn key_in(word: u32) -> u8
@@ -55,33 +54,33 @@ pub fn joined(low: u8, high: u8) -> u8
     low / 8 * 8 + referenced * 4 + changed * 2
 }
 
-// Who may fetch and store: 512 entries of two bits, sixteen to a word, from left to right. The entry for an access key and a storage key is
-// number access key x 32 + the five leading bits of the storage key; its left bit says whether store is permitted, its right bit whether
-// fetch is. So each access key has a row, and in it each value of the access-control bits a hexadecimal digit, with the entries for
-// fetch-protection bit 0 and 1: F permits all of it, 4 no more than to fetch where that bit is 0.
+// Who may fetch and store: 512 entries, that of an access key and a storage key at access key x 32 + the five leading bits of the storage key. An
+// access key has a row of 32 entries, with a word for fetch and a word for store; an entry has a bit in each, from left to right, and a one
+// says that it is permitted. Two entries side by side are for one value of the access-control bits, with fetch-protection bit 0 and 1: where
+// the keys match they have 11 and 11, else 10 and 00. Why the table is no larger: docs/BENCHMARK.md.
 const PERMISSIONS: [[u32; 2]; 16] = [
     [0xFFFFFFFF, 0xFFFFFFFF],
-    [0x4F444444, 0x44444444],
-    [0x44F44444, 0x44444444],
-    [0x444F4444, 0x44444444],
-    [0x4444F444, 0x44444444],
-    [0x44444F44, 0x44444444],
-    [0x444444F4, 0x44444444],
-    [0x4444444F, 0x44444444],
-    [0x44444444, 0xF4444444],
-    [0x44444444, 0x4F444444],
-    [0x44444444, 0x44F44444],
-    [0x44444444, 0x444F4444],
-    [0x44444444, 0x4444F444],
-    [0x44444444, 0x44444F44],
-    [0x44444444, 0x444444F4],
-    [0x44444444, 0x4444444F],
+    [0xBAAAAAAA, 0x30000000],
+    [0xAEAAAAAA, 0x0C000000],
+    [0xABAAAAAA, 0x03000000],
+    [0xAAEAAAAA, 0x00C00000],
+    [0xAABAAAAA, 0x00300000],
+    [0xAAAEAAAA, 0x000C0000],
+    [0xAAABAAAA, 0x00030000],
+    [0xAAAAEAAA, 0x0000C000],
+    [0xAAAABAAA, 0x00003000],
+    [0xAAAAAEAA, 0x00000C00],
+    [0xAAAAABAA, 0x00000300],
+    [0xAAAAAAEA, 0x000000C0],
+    [0xAAAAAABA, 0x00000030],
+    [0xAAAAAAAE, 0x0000000C],
+    [0xAAAAAAAB, 0x00000003],
 ];
 
-// The entry for an access key and a storage key. An access key over 15 has no row and matches no storage key: its entry is that of access
+// The access key and the storage key permit an access. An access key over 15 has no row and matches no storage key: its entry is that of access
 // key 1 and access control 0, with the fetch-protection bit of the storage key.
-fn entry(access_key: u8, key: u8) -> u32
-    ensures { λ r. ⌜ r ≡ entryFor «access_key» key ⌝ }
+pub fn permitted(kind: AccessKind, access_key: u8, key: u8) -> bool
+    ensures { λ r. ⌜ r ≡ isPermitted kind «access_key» key ⌝ }
 {
     let leading = key as usize / 8;
     let place = if access_key < 16 {
@@ -89,18 +88,11 @@ fn entry(access_key: u8, key: u8) -> u32
     } else {
         32 + leading % 2
     };
-    (PERMISSIONS[place / 32][place / 16 % 2] >> (30 - place % 16 * 2)) % 4
-}
-
-// The access key and the storage key permit an access.
-pub fn permitted(kind: AccessKind, access_key: u8, key: u8) -> bool
-    ensures { λ r. ⌜ r ≡ isPermitted kind «access_key» key ⌝ }
-{
-    let entry = entry(access_key, key);
-    match kind {
-        AccessKind::Fetch => entry % 2 == 1,
-        AccessKind::Store => entry / 2 % 2 == 1,
-    }
+    let column = match kind {
+        AccessKind::Fetch => 0,
+        AccessKind::Store => 1,
+    };
+    (PERMISSIONS[place / 32][column] >> (31 - place % 32)) % 2 == 1
 }
 
 // Low-address protection forbids an access to a real address.

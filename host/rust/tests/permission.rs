@@ -40,19 +40,18 @@ fn line_for(access_key: u8, key: u8) -> &'static Line {
     SUMMARY.iter().find(applies).expect("a line of the summary")
 }
 
-/// The table as the source has it: a row of two words for each access key, and in a word two
-/// bits for each value of the five leading key bits.
+/// The table as the source has it: a row for each access key with a word for fetch and one for
+/// store, and in a word a bit for each value of the five leading key bits.
 fn printed() -> String {
     let mut table = String::new();
     for access_key in 0..16 {
-        let mut words = [0_u32; 2];
+        let (mut fetch, mut store) = (0_u32, 0_u32);
         for leading_bits in 0..32 {
             let line = line_for(access_key, leading_bits << 3);
-            let entry = u32::from(line.fetch_permitted) + 2 * u32::from(line.store_permitted);
-            let word = &mut words[usize::from(leading_bits) / 16];
-            *word = *word << 2 | entry;
+            fetch = fetch << 1 | u32::from(line.fetch_permitted);
+            store = store << 1 | u32::from(line.store_permitted);
         }
-        table += &format!("    [0x{:08X}, 0x{:08X}],\n", words[0], words[1]);
+        table += &format!("    [0x{fetch:08X}, 0x{store:08X}],\n");
     }
     table
 }

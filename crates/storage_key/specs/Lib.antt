@@ -1,2 +1,0 @@
--- What the table of permissions means.
-pub mod Permissions

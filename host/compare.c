@@ -24,7 +24,7 @@ Function before_request;
 
 enum { ANYWHERE, ONE_UNIT, TWO_UNITS };
 
-/* A kind of request: `count` 0 is a random count. Each answers with `number`. */
+/* A kind of request. `count` 0 is a random count; `number` is what each answers with, or KEYED. */
 struct row {
     const char *name;
     uint32_t settings;
@@ -165,7 +165,7 @@ static int expected(const struct row *row, uint32_t number)
     return number == row->number;
 }
 
-/* Nanoseconds for each request of a batch. Every one answers with the number of its row. */
+/* Nanoseconds for each request of a batch. Every answer is one that its row asks for. */
 static double batch(Function *function, const struct row *row)
 {
     size_t key_count = storage_unit_key_count(row->settings, STORAGE_LENGTH);

@@ -15,15 +15,15 @@ store-column : (match : Bool) (bit : ℕ) → match ≡ summary bit (cond match 
 unfolding summary
 store-column true zero = refl
 store-column false zero = refl
-store-column true (suc bit) = refl
-store-column false (suc bit) = refl
+store-column true (suc n) = refl
+store-column false (suc n) = refl
 
 fetch-column : (match : Bool) (bit : ℕ) → match || eqb bit 0 ≡ summary bit (cond match Match Mismatch) .fetch
 unfolding summary
 fetch-column true zero = refl
 fetch-column false zero = refl
-fetch-column true (suc bit) = refl
-fetch-column false (suc bit) = ne-eqb (suc bit) 0 (λ e. omega arith)
+fetch-column true (suc n) = refl
+fetch-column false (suc n) = ne-eqb (suc n) 0 (λ e. omega arith)
 
 pub permitted-as-summarized : (kind : AccessKind) (accessKey k : ℕ) → permitted kind accessKey k ≡ summarized kind accessKey k
 unfolding permitted

@@ -54,10 +54,10 @@ pub fn joined(low: u8, high: u8) -> u8
     low / 8 * 8 + referenced * 4 + changed * 2
 }
 
-// Who may fetch and store: 512 entries, that of an access key and a storage key at access key x 32 + the five leading bits of the storage key. An
-// access key has a row of 32 entries, with a word for fetch and a word for store; an entry has a bit in each, from left to right, and a one
-// says that it is permitted. Two entries side by side are for one value of the access-control bits, with fetch-protection bit 0 and 1: where
-// the keys match they have 11 and 11, else 10 and 00. Why the table is no larger: docs/BENCHMARK.md.
+// Who may fetch and store: 512 entries, that of an access key and a storage key at index access key x 32 + the five leading bits of the storage
+// key. An access key has a row of 32 entries, with a word for fetch and a word for store; an entry has a bit in each, from left to right, which
+// is one where that is permitted. Two entries side by side are for one value of the access-control bits, with fetch-protection bit 0 and 1:
+// they have 11 in the word for fetch and 11 in the word for store where the keys match, else 10 and 00. Why no larger: docs/BENCHMARK.md.
 const PERMISSIONS: [[u32; 2]; 16] = [
     [0xFFFFFFFF, 0xFFFFFFFF],
     [0xBAAAAAAA, 0x30000000],
@@ -77,13 +77,13 @@ const PERMISSIONS: [[u32; 2]; 16] = [
     [0xAAAAAAAB, 0x00000003],
 ];
 
-// The access key and the storage key permit an access. An access key over 15 has no row and matches no storage key: its entry is that of access
-// key 1 and access control 0, with the fetch-protection bit of the storage key.
+// The access key and the storage key permit an access. An access key over 15 has no row and matches no storage key: it takes the entry of access
+// key 1 and access control 0, which do not match, with the fetch-protection bit of the storage key.
 pub fn permitted(kind: AccessKind, access_key: u8, key: u8) -> bool
     ensures { λ r. ⌜ r ≡ isPermitted kind «access_key» key ⌝ }
 {
     let leading = key as usize / 8;
-    let place = if access_key < 16 {
+    let index = if access_key < 16 {
         access_key as usize * 32 + leading
     } else {
         32 + leading % 2
@@ -92,7 +92,7 @@ pub fn permitted(kind: AccessKind, access_key: u8, key: u8) -> bool
         AccessKind::Fetch => 0,
         AccessKind::Store => 1,
     };
-    (PERMISSIONS[place / 32][column] >> (31 - place % 32)) % 2 == 1
+    (PERMISSIONS[index / 32][column] >> (31 - index % 32)) % 2 == 1
 }
 
 // Low-address protection forbids an access to a real address.

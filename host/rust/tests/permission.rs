@@ -66,7 +66,8 @@ fn table_in_the_source() {
     assert_eq!(table, printed());
 }
 
-/// Only access key 0 matches every storage key, and bits 5-7 of a storage key do not matter.
+/// Every access key with every storage key: a fetch and a store complete where the summary
+/// permits them, and are refused with 4 elsewhere.
 fn each_pair_of_keys<U: Unit>() {
     for access_key in 0..16 {
         for key in 0..=255 {

@@ -1,25 +1,28 @@
--- `permitted` is the rules' test: it reads the table where the place stands for both keys. That the table of the source is the table by the
--- summary is computed here. Assumes nothing.
-use Prim.Native.Nat.{_<_}
-use mathlib.Core.Path.{_≡_}
-use mathlib.Core.Logic.{_⊎_, inl, inr, ⊎-elim}
+-- `permitted` is the rules' test: it reads the table at an index that stands for both keys. The test of the table in the source is computed here.
+-- Assumes nothing.
+use Prim.Native.Nat.{ℕ, _<_}
+use mathlib.Core.Path.{_≡_, refl}
+use mathlib.Core.Bool.{true}
+use mathlib.Core.List.{List}
+use mathlib.Core.Logic.{inl, inr, ⊎-elim}
 use native.Mathlib.Omega.{arith}
 use borrow.Author.Needs.{needs}
+use borrow.Table.Row.{get}
 use Rattle.machine.specs.Protection.{summary}
-use Rattle.storage_key.proofs.Permissions.{columnOf, Own, Mismatched, in-table, read-permitted}
+use Rattle.storage_key.proofs.Permissions.{columnOf, follows, Stands, in-table, read-permitted}
 use Rattle.storage_key.proofs.permitted.Statement.{statement}
 use Rattle.storage_key.proofs.permitted.Tie as tie
 use Rattle.storage_key.proofs.permitted.Reads as reads
 use Rattle.storage_key.proofs.permitted.Lts as lts
 
-mul-place : tie.Need-mul-place
-mul-place c = search needs
+mul-index : tie.Need-mul-index
+mul-index c = search needs
 
-add-place : tie.Need-add-place
-add-place c = search needs
+add-index : tie.Need-add-index
+add-index c = search needs
 
-add-place-2 : tie.Need-add-place-2
-add-place-2 c = search needs
+add-index-2 : tie.Need-add-index-2
+add-index-2 c = search needs
 
 enum-told : tie.Need-enum-told
 enum-told c = search needs
@@ -27,15 +30,13 @@ enum-told c = search needs
 enum-told-2 : tie.Need-enum-told-2
 enum-told-2 c = search needs
 
--- the place stands for both keys
-stands : (c : lts.Joined1 reads.Pre reads.Post)
-    → Own (c .before .args .access-key) (c .before .args .key) (c .if1 .place)
-    ⊎ Mismatched (c .before .args .access-key) (c .before .args .key) (c .if1 .place)
+-- the index stands for both keys
+stands : (c : lts.Joined1 reads.Pre reads.Post) → Stands (c .before .args .access-key) (c .before .args .key) (c .if1 .index)
 stands c =
     let byte : c .before .args .key < 256 = search needs in
     ⊎-elim
     (λ own. inl (own .0 .taken, omega arith, omega arith))
-    (λ mismatched. inr (mismatched .0 .left, omega arith, omega arith))
+    (λ none. inr (none .0 .left, omega arith, omega arith))
     (c .if1 .came)
 
 -- the column is that of the kind
@@ -76,20 +77,29 @@ cast-result c = search needs
 shr-result : tie.Need-shr-result
 shr-result c = search needs
 
-returns : tie.Need-returns
+-- the table of the source: what the array, local 14, holds where it is read
+abbrev table : lts.After-row-known2 reads.Pre reads.Post → List (List ℕ)
+table c = get 14 (lts.T88 .locals) (lts.m87 reads.Pre reads.Post (c .before) (c .row-known2 .given))
+
+-- the test of all entries, computed
+table-follows : (c : lts.After-row-known2 reads.Pre reads.Post) → follows (table c) ≡ true
 unfolding summary
+table-follows c = refl
+
+returns : tie.Need-returns
 returns c =
     let matched = c .before .before .before in
     let args = matched .before .before .args in
-    read-permitted (args .kind) (args .access-key) (args .key) _ _ (column matched) (stands (matched .before))
+    let reads-rule = read-permitted (table (c .before)) (table-follows (c .before)) in
+    reads-rule (args .kind) (args .access-key) (args .key) _ _ (column matched) (stands (matched .before))
 
 pub permitted-spec : {M : Type 1} → statement M
 permitted-spec =
     tie.close
     (tie.spec
-    mul-place
-    add-place
-    add-place-2
+    mul-index
+    add-index
+    add-index-2
     enum-told
     enum-told-2
     mul-result

@@ -5,15 +5,16 @@ use Prim.Native.Nat.{ℕ, zero, suc, _+_, _*_, _/_, _%_, _^_, _-_, _<_, _≤_}
 use mathlib.Core.Path.{_≡_, _∙_, refl, sym}
 use mathlib.Core.Logic.{_⊎_, ⊎-elim}
 use mathlib.Core.Bool.{Bool, true, false, not, cond, _&&_}
-use mathlib.Core.List.{List, [], _∷_}
+use mathlib.Core.List.{List, []}
 use native.Mathlib.Omega.{arith}
+use native.Mathlib.Nat.{add-zero}
 use lib.ListN.{getD}
 use lib.Dec.{eqb}
 use borrow.Author.Tests.{ne-eqb}
 use Rattle.machine.specs.declared.AccessKind.{AccessKind}
 use Rattle.machine.specs.declared.AccessKind.the-variants.{Fetch, Store}
 use Rattle.machine.specs.Key.{accessControl, fetchProtection}
-use Rattle.machine.specs.Protection.{matches, permitted, summary, summarized}
+use Rattle.machine.specs.Protection.{matches, permitted, summarized}
 use Rattle.machine.proofs.Verdicts.{both}
 use Rattle.machine.proofs.Summary.{permitted-as-summarized}
 
@@ -29,15 +30,17 @@ columnOf Store = 1
 abbrev pub readAt : List (List ℕ) → (column index : ℕ) → Bool
 readAt table column index = eqb (getD (getD table (index / 32) []) column 0 / 2 ^ (31 - index % 32) % 2) 1
 
--- a test passes at each index below n
-abbrev every : (ℕ → Bool) → ℕ → Bool
-every test zero = true
-every test (suc n) = test 0 && every (λ index. test (suc index)) n
+-- a test passes at n indexes, the first of which is `from`
+abbrev every : (ℕ → Bool) → (n from : ℕ) → Bool
+every test zero from = true
+every test (suc n) from = test from && every test n (suc from)
 
-every-at : (test : ℕ → Bool) (n : ℕ) → every test n ≡ true → (index : ℕ) → index < n → test index ≡ true
-every-at test zero e index h = absurd (omega arith)
-every-at test (suc n) e zero h = both (test 0) _ e .0
-every-at test (suc n) e (suc index) h = every-at (λ p. test (suc p)) n (both (test 0) _ e .1) index (omega arith)
+every-at : (test : ℕ → Bool) (n from : ℕ) → every test n from ≡ true → (i : ℕ) → i < n → test (from + i) ≡ true
+every-at test zero from e i h = absurd (omega arith)
+every-at test (suc n) from e zero h = rw (add-zero from) (both (test from) _ e .0)
+every-at test (suc n) from e (suc i) h =
+    let next : from + suc i ≡ suc from + i = omega arith in
+    rw next (every-at test n (suc from) (both (test from) _ e .1) i (omega arith))
 
 -- two answers agree
 abbrev agree : Bool → Bool → Bool
@@ -54,14 +57,16 @@ abbrev right : List (List ℕ) → AccessKind → ℕ → Bool
 right table kind index = agree (readAt table (columnOf kind) index) (summaryAt kind index)
 
 abbrev pub follows : List (List ℕ) → Bool
-follows table = every (λ index. right table Fetch index && right table Store index) 512
+follows table = every (λ index. right table Fetch index && right table Store index) 512 0
 
 summary-read : (table : List (List ℕ)) → follows table ≡ true → (kind : AccessKind) (index : ℕ) → index < 512
     → readAt table (columnOf kind) index ≡ summaryAt kind index
 summary-read table passed kind index h = agreed _ _ (of kind)
   where
     here : right table Fetch index && right table Store index ≡ true
-    here = every-at (λ p. right table Fetch p && right table Store p) 512 passed index h
+    here =
+        let same : index ≡ 0 + index = omega arith in
+        rw same (every-at (λ i. right table Fetch i && right table Store i) 512 0 passed index h)
 
     of : (kind : AccessKind) → right table kind index ≡ true
     of Fetch = both (right table Fetch index) _ here .0

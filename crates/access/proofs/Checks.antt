@@ -1,5 +1,6 @@
--- The table of an access by unit is the table by byte. A test that passes at the first byte of a span passes at all its bytes: so a scan goes on
--- over a span by one test, and an access in one unit takes one test of each line, an access in two units two.
+-- The table of an access by unit is the table by byte. Line 5 may be tested at the first byte before all else. A test that passes at the first byte
+-- of a span passes at all its bytes: so a scan goes on over a span by one test, and an access in one unit takes one test of each line, an
+-- access in two units two.
 -- Assumes nothing.
 use Prim.Native.Nat.{ℕ, _+_, _-_, _%_, _<_, _≤_}
 use mathlib.Core.Path.{_≡_, refl, sym, _∙_}
@@ -13,7 +14,7 @@ use lib.ListN.{length, getD}
 use Rattle.machine.specs.declared.Settings.{Settings}
 use Rattle.machine.specs.declared.Processor.{Processor}
 use Rattle.machine.specs.declared.Reason.{Reason}
-use Rattle.machine.specs.declared.Reason.the-variants.{Addressing, Protection}
+use Rattle.machine.specs.declared.Reason.the-variants.{Operand, Addressing, Protection}
 use Rattle.machine.specs.declared.Request.{Request}
 use Rattle.machine.specs.declared.Request.the-variants.{Access}
 use Rattle.machine.specs.declared.Verdict.{Verdict}
@@ -24,12 +25,13 @@ use Rattle.machine.specs.Numbers.{unitOf, add24}
 use Rattle.machine.specs.Answers.{stops, line, firstOf, firstByte, firstLine}
 use Rattle.machine.specs.Prefixing.{byteAddress}
 use Rattle.machine.specs.Protection.{lowProtected, forbidden}
-use Rattle.machine.specs.Table.{configuration, addressing, protection, beforeProtection, verdict}
-use Rattle.machine.proofs.Verdicts.{neither, line-clear, first-clear, first-of-clear, first-none, first-assoc, skipped, first-of-stop, scan-on}
+use Rattle.machine.specs.Table.{configuration, ownRecord, operandInvalid, addressing, protection, beforeProtection, verdict}
+use Rattle.machine.proofs.Verdicts.{neither, line-clear, first-clear, first-of-clear, first-none, first-assoc}
+use Rattle.machine.proofs.Verdicts.{skipped, first-of-stop, first-byte-before, left-out, scan-on}
 use Rattle.machine.proofs.AbsoluteAddress.{configured}
 use Rattle.machine.proofs.BeforeProtection.{operands-passed}
 use Rattle.access.specs.declared.span.Span.{Span}
-use Rattle.access.specs.ByUnit.{toUnitEnd, spanAt, firstLines, linesOfOne, twoTests, linesOfTwo}
+use Rattle.access.specs.ByUnit.{toUnitEnd, spanAt, firstLines, stopAt, linesOfOne, linesOfTwo}
 use Rattle.access.proofs.Spans.{SameUnit, real-below, real-step, unit-same, to-unit-end-positive, first-span, second-span}
 
 -- a test that passes at every byte of a span where it passes at the first
@@ -43,8 +45,8 @@ module _ (s : Settings) (address : ℕ) (r : Reason) (test : ℕ → Bool) (stea
       rw (zero-add n) at (scan-on r test 0 n positive (λ j l. steady 0 j (first-span s address n whole j l)))
 
   by-two : (count : ℕ) → toUnitEnd s address < count → count ≤ 256
-      → firstByte r test count ≡ twoTests r (test 0) (toUnitEnd s address) (test (toUnitEnd s address))
-  unfolding twoTests line
+      → firstByte r test count ≡ firstOf (stopAt r 0 (test 0)) (stopAt r (toUnitEnd s address) (test (toUnitEnd s address)))
+  unfolding line
   by-two count more short =
       let k = toUnitEnd s address in
       let whole : k + (count - k) ≡ count = omega arith in
@@ -80,49 +82,82 @@ module _ (s : Settings) (storageLength : ℕ) (keys : List ℕ) (p : Processor) 
   abbrev table : Verdict
   table = verdict s storageLength keys p request bufferLength
 
-  -- lines 64, 65 and 66
+  -- the tests of byte i by lines 5 and 4
+  abbrev test-5 : ℕ → Bool
+  test-5 i = leb storageLength (add24 address i)
+
+  abbrev test-4 : ℕ → Bool
+  test-4 i = forbidden kind p (add24 address i) (getD keys (unitOf s (byteAddress p address i)) 0)
+
+  abbrev lines-5-and-4 : Verdict
+  lines-5-and-4 = firstOf (firstByte Addressing test-5 count) (firstByte Protection test-4 count)
+
+  -- lines 64 and 65; with line 66; and with line 5 at the first byte
+  abbrev machine-lines : Verdict
+  machine-lines = firstOf (configuration s storageLength (length keys)) (ownRecord storageLength p)
+
+  abbrev operand-line : Verdict
+  operand-line = line Operand (operandInvalid request bufferLength)
+
+  abbrev operand-lines : Verdict
+  operand-lines = firstOf machine-lines operand-line
+
+  abbrev first-byte : Verdict
+  first-byte = line Addressing (test-5 0)
+
   abbrev firsts : Verdict
   firsts = firstLines s storageLength (length keys) p kind address count bufferLength
 
-  -- the table of an access is these and lines 5 and 4
-  table-in-two : firstOf firsts (firstOf (addressing storageLength request) (protection s keys p request)) ≡ table
-  unfolding firstLine firstLines beforeProtection verdict
+  firsts-in-two : firsts ≡ firstOf operand-lines first-byte
+  unfolding firstLines
+  firsts-in-two = sym (first-assoc machine-lines operand-line first-byte)
+
+  -- the table of an access is lines 64, 65 and 66, and lines 5 and 4
+  table-in-two : firstOf operand-lines lines-5-and-4 ≡ table
+  unfolding addressing protection firstLine beforeProtection verdict
   table-in-two = simp (first-assoc, first-none, skipped)
+
+  operands-known : operand-lines ≡ Clear → (0 < count) × (count ≤ 256) × (count ≤ bufferLength)
+  operands-known clear = operands-passed kind address count bufferLength (line-clear _ _ (first-clear _ _ clear .1))
+
+  -- line 5 may be tested at the first byte before: an access without bytes is refused before it
+  first-byte-first : firstOf firsts lines-5-and-4 ≡ table
+  first-byte-first =
+      rw (firsts-in-two, first-assoc operand-lines first-byte lines-5-and-4)
+      (left-out operand-lines first-byte lines-5-and-4
+      (λ clear. first-byte-before Addressing test-5 count (operands-known clear .0) (firstByte Protection test-4 count))
+      ∙ table-in-two)
 
   -- where one of the first lines refuses, it is the verdict of the table
   pub refused-first : {v : Verdict} → v ≡ firsts → stops v ≡ true → v ≡ table
-  refused-first {v} found stop = sym (first-of-stop v _ stop) ∙ rw (← found) at table-in-two
+  refused-first {v} found stop = sym (first-of-stop v _ stop) ∙ rw (← found) at first-byte-first
 
   -- where none does, the other lines decide
   module _ (first : firsts ≡ Clear) where
-    lengths : configuration s storageLength (length keys) ≡ Clear
-    unfolding firstLines
-    lengths = first-clear _ _ (first-clear _ _ first .0) .0
+    both-clear : (operand-lines ≡ Clear) × (first-byte ≡ Clear)
+    both-clear = first-clear operand-lines first-byte (sym firsts-in-two ∙ first)
 
     operands : (0 < count) × (count ≤ 256) × (count ≤ bufferLength)
-    unfolding firstLines
-    operands = operands-passed kind address count bufferLength (line-clear _ _ (first-clear _ _ first .1))
+    operands = operands-known (both-clear .0)
 
-    -- the tests of byte i by lines 5 and 4
-    abbrev test-5 : ℕ → Bool
-    test-5 i = leb storageLength (add24 address i)
-
-    abbrev test-4 : ℕ → Bool
-    test-4 i = forbidden kind p (add24 address i) (getD keys (unitOf s (byteAddress p address i)) 0)
+    -- line 5 passes at the first byte
+    first-inside : test-5 0 ≡ false
+    first-inside = line-clear _ _ (both-clear .1)
 
     steady-5 : Steady s address test-5
-    steady-5 = outside-steady s address storageLength (configured s storageLength (length keys) lengths .whole)
+    steady-5 =
+        let lengths = first-clear _ _ (first-clear _ _ (both-clear .0) .0) .0 in
+        outside-steady s address storageLength (configured s storageLength (length keys) lengths .whole)
 
     steady-4 : Steady s address test-4
     steady-4 = forbidden-steady s address keys p kind
 
-    others : firstOf (firstByte Addressing test-5 count) (firstByte Protection test-4 count) ≡ table
-    unfolding addressing protection
-    others = sym (first-of-clear _ _ first) ∙ table-in-two
+    others : lines-5-and-4 ≡ table
+    others = sym (first-of-clear _ _ first) ∙ first-byte-first
 
     -- the verdict of lines 5 and 4 on an access in one unit
     pub table-of-one : {here : Span} {v : Verdict} → count ≤ toUnitEnd s address → here ≡ spanAt s keys p address 0
-        → v ≡ linesOfOne storageLength p kind here → v ≡ table
+        → v ≡ linesOfOne p kind here → v ≡ table
     unfolding linesOfOne
     table-of-one whole spanned tested =
         let positive = operands .0 in
@@ -130,12 +165,14 @@ module _ (s : Settings) (storageLength : ℕ) (keys : List ℕ) (p : Processor) 
         (rw (
           by-one s address Addressing test-5 steady-5 count positive whole,
           by-one s address Protection test-4 steady-4 count positive whole,
+          first-inside,
+          skipped Addressing (line Protection (test-4 0)),
         ) at others)
 
     -- and on one in two
     pub table-of-two : {here there : Span} {v : Verdict} {k : ℕ} → k ≡ toUnitEnd s address → k < count
         → here ≡ spanAt s keys p address 0 → there ≡ spanAt s keys p address k → v ≡ linesOfTwo storageLength p kind here k there → v ≡ table
-    unfolding linesOfTwo
+    unfolding linesOfTwo firstOf
     table-of-two end more spanned-here spanned-there tested =
         let beyond : toUnitEnd s address < count = rw end at more in
         let short = operands .1 in
@@ -143,4 +180,5 @@ module _ (s : Settings) (storageLength : ℕ) (keys : List ℕ) (p : Processor) 
         (rw (
           by-two s address Addressing test-5 steady-5 count beyond short,
           by-two s address Protection test-4 steady-4 count beyond short,
+          first-inside,
         ) at others)

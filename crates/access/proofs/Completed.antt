@@ -13,22 +13,23 @@ use Rattle.machine.specs.declared.AccessKind.{AccessKind}
 use Rattle.machine.specs.declared.AccessKind.the-variants.{Fetch, Store}
 use Rattle.machine.specs.declared.Request.{Request}
 use Rattle.machine.specs.declared.Request.the-variants.{Access}
+use Rattle.machine.specs.declared.Answer.{Answer}
+use Rattle.machine.specs.declared.Answer.the-variants.{Completed}
 use Rattle.machine.specs.declared.Verdict.{Verdict}
 use Rattle.machine.specs.declared.Verdict.the-variants.{Clear}
 use Rattle.machine.specs.Lists.{written}
 use Rattle.machine.specs.Numbers.{unitOf}
-use Rattle.machine.specs.Answers.{answerOf, stops}
+use Rattle.machine.specs.Answers.{stops}
 use Rattle.machine.specs.Prefixing.{byteAddress}
 use Rattle.machine.specs.Protection.{recorded}
 use Rattle.machine.specs.Table.{beforeProtection, verdict}
 use Rattle.machine.specs.Step.{outcome, storageLeft, bufferLeft, keysRecorded, ruleGiven, completed, step}
 use Rattle.machine.proofs.Written.{written-same, written-after, written-once}
-use Rattle.machine.proofs.Verdicts.{stops-not}
 use Rattle.machine.proofs.BeforeProtection.{table-clear, AccessCleared, access-cleared, access-keyed}
 use Rattle.machine.proofs.Requests.{completed-request}
 use Rattle.access.specs.declared.span.Span.{Span}
 use Rattle.access.specs.ByUnit.{spanAt}
-use Rattle.access.specs.Moving.{Fits, moved, storageMoved, bufferMoved, keyRecorded}
+use Rattle.access.specs.Moving.{SpanFits, moved, keyRecorded}
 use Rattle.access.proofs.Spans.{OneUnit, real-step, byte-step, unit-same}
 
 -- byte i goes from index `from i` of the source to index `place i` of the target: n bytes after the first f, where both are consecutive
@@ -55,7 +56,16 @@ module _ (mark unit : ℕ → ℕ) (keys : List ℕ) where
       sym (written-once (marked f) (λ j. unit (f + j)) (λ j. mark (unit (f + j))) (unit f) (mark (unit f)) n (λ j l. (same j l, ap mark (same j l))))
       ∙ written-after keys unit (λ i. mark (unit i)) f (suc n)
 
--- what `complete_span` does with storage, keys and buffer
+-- storage and buffer after n bytes of an access, from index `at` on in storage and from index `from` on in the buffer
+abbrev storageMoved : AccessKind → List ℕ → ℕ → List ℕ → ℕ → ℕ → List ℕ
+storageMoved Fetch storage at buffer from n = storage
+storageMoved Store storage at buffer from n = moved storage at buffer from n
+
+abbrev bufferMoved : AccessKind → List ℕ → ℕ → List ℕ → ℕ → ℕ → List ℕ
+bufferMoved Fetch storage at buffer from n = moved buffer from storage at n
+bufferMoved Store storage at buffer from n = buffer
+
+-- a span is completed: storage, keys and buffer before and after it
 abbrev pub SpanCompleted : AccessKind → Span → ℕ → ℕ → List ℕ → List ℕ → List ℕ → List ℕ → List ℕ → List ℕ → Type 0
 SpanCompleted kind here f n storage keys buffer storage′ keys′ buffer′ =
     (storage′ ≡ storageMoved kind storage (here .absolute) buffer f n)
@@ -88,14 +98,14 @@ module _ (s : Settings) (storage keys : List ℕ) (p : Processor) (kind : Access
     storage-on : (kind : AccessKind)
         → storageMoved kind (storageLeft kind storage p address f buffer) (byteAddress p address f) (bufferLeft kind storage p address f buffer) f n
         ≡ storageLeft kind storage p address (f + n) buffer
-    unfolding storageMoved storageLeft bufferLeft
+    unfolding storageLeft bufferLeft
     storage-on Fetch = refl
     storage-on Store = moved-on (byteAddress p address) (λ i. i) storage buffer f n (λ j l. (bytes-step j l, refl))
 
     buffer-on : (kind : AccessKind)
         → bufferMoved kind (storageLeft kind storage p address f buffer) (byteAddress p address f) (bufferLeft kind storage p address f buffer) f n
         ≡ bufferLeft kind storage p address (f + n) buffer
-    unfolding bufferMoved storageLeft bufferLeft
+    unfolding storageLeft bufferLeft
     buffer-on Fetch = moved-on (λ i. i) (byteAddress p address) buffer storage f n (λ j l. (refl, bytes-step j l))
     buffer-on Store = refl
 
@@ -123,16 +133,17 @@ module _ (s : Settings) (storage keys : List ℕ) (p : Processor) (kind : Access
   abbrev pub table : Verdict
   table = verdict s (length storage) keys p request (length buffer)
 
-  -- the answer by v, and these lists, are what the step leaves
-  abbrev pub Performed : Verdict → List ℕ → List ℕ → List ℕ → Type 0
-  Performed v storage′ keys′ buffer′ = outcome (answerOf v 0 (ruleGiven p request)) storage′ keys′ p buffer′ ≡ step s storage keys p request buffer
+  -- this answer, and these lists, are what the step leaves
+  abbrev pub Performed : Answer → List ℕ → List ℕ → List ℕ → Type 0
+  Performed answer storage′ keys′ buffer′ = outcome answer storage′ keys′ p buffer′ ≡ step s storage keys p request buffer
 
   -- after the last byte of an access that the table lets pass they are
-  pub finished : {v : Verdict} {storage′ keys′ buffer′ : List ℕ} → v ≡ table → stops v ≡ false
-      → After s storage keys p kind address buffer count storage′ keys′ buffer′ → Performed v storage′ keys′ buffer′
+  pub finished : {v : Verdict} {rule : ℕ} {storage′ keys′ buffer′ : List ℕ} → v ≡ table → stops v ≡ false → rule ≡ ruleGiven p request
+      → After s storage keys p kind address buffer count storage′ keys′ buffer′ → Performed (Completed 0 rule) storage′ keys′ buffer′
   unfolding completed
-  finished {v} found clear left =
-      rw (stops-not v clear, left .storage-left, left .keys-left, left .buffer-left) (completed-request s storage keys p request buffer found clear)
+  finished found clear ruled left =
+      rw (ruled, left .storage-left, left .keys-left, left .buffer-left)
+      (completed-request s storage keys p request buffer found clear)
 
   module _ (clear : table ≡ Clear) where
     before : beforeProtection s (length storage) (length keys) p request (length buffer) ≡ Clear
@@ -143,7 +154,7 @@ module _ (s : Settings) (storage keys : List ℕ) (p : Processor) (kind : Access
 
     -- a span fits, and the key of its unit is there
     pub span-fits : {here : Span} (f n : ℕ) → 0 < n → f + n ≤ count → OneUnit s address f n → here ≡ spanAt s keys p address f
-        → Fits (length storage) (here .absolute) (length buffer) f (here .real) n × (here .unit < length keys)
+        → SpanFits here f n (length storage) (length keys) (length buffer)
     span-fits f n positive inside one-unit spanned =
         let last : f + (n - 1) < count = omega arith in
         let same = one-unit (n - 1) (omega arith) in

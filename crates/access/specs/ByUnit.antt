@@ -14,7 +14,7 @@ use Rattle.machine.specs.declared.Verdict.{Verdict}
 use Rattle.machine.specs.declared.Verdict.the-variants.{Clear, Stop}
 use Rattle.machine.specs.Numbers.{unitSize, unitOf, add24}
 use Rattle.machine.specs.Answers.{line, firstOf}
-use Rattle.machine.specs.Prefixing.{byteAddress}
+use Rattle.machine.specs.Prefixing.{rule, byteAddress}
 use Rattle.machine.specs.Protection.{forbidden}
 use Rattle.machine.specs.Table.{configuration, ownRecord, operandInvalid}
 use Rattle.access.specs.declared.span.Span.{Span}
@@ -29,31 +29,31 @@ spanAt s keys p address i =
     record {
       real = add24 address i;
       absolute = byteAddress p address i;
+      rule = rule (p .prefix) (add24 address i);
       unit = unitOf s (byteAddress p address i);
       key = getD keys (unitOf s (byteAddress p address i)) 0;
     }
 
--- lines 64, 65 and 66
+-- lines 64, 65 and 66, and line 5 at the first byte
 unfoldable pub firstLines : Settings → ℕ → ℕ → Processor → AccessKind → ℕ → ℕ → ℕ → Verdict
 firstLines s storageLength keyLength p kind address count bufferLength =
     firstOf (firstOf (configuration s storageLength keyLength) (ownRecord storageLength p))
-    (line Operand (operandInvalid (Access kind address count) bufferLength))
+    (firstOf (line Operand (operandInvalid (Access kind address count) bufferLength)) (line Addressing (leb storageLength (add24 address 0))))
 
--- line 5 at the first byte of a span
-abbrev pub spanOutside : ℕ → Span → Bool
-spanOutside storageLength here = leb storageLength (here .real)
+-- line 4 at the first byte of a span
+abbrev pub spanForbidden : Processor → AccessKind → Span → Bool
+spanForbidden p kind here = forbidden kind p (here .real) (here .key)
 
--- lines 5 and 4 of an access in one unit
-unfoldable pub linesOfOne : ℕ → Processor → AccessKind → Span → Verdict
-linesOfOne storageLength p kind here =
-    firstOf (line Addressing (spanOutside storageLength here)) (line Protection (forbidden kind p (here .real) (here .key)))
+-- what is left of lines 5 and 4 for an access in one unit
+unfoldable pub linesOfOne : Processor → AccessKind → Span → Verdict
+linesOfOne p kind here = line Protection (spanForbidden p kind here)
 
--- refused at byte 0 where the first test holds, else at byte k where the second does
-unfoldable pub twoTests : Reason → Bool → ℕ → Bool → Verdict
-twoTests r here k there = firstOf (cond here (Stop r 0) Clear) (cond there (Stop r k) Clear)
+-- refused at byte k where the test holds
+abbrev pub stopAt : Reason → ℕ → Bool → Verdict
+stopAt r k test = cond test (Stop r k) Clear
 
--- lines 5 and 4 of an access in two units, byte k being the first in the second unit
+-- and for an access in two units, byte k being the first in the second
 unfoldable pub linesOfTwo : ℕ → Processor → AccessKind → Span → ℕ → Span → Verdict
 linesOfTwo storageLength p kind here k there =
-    firstOf (twoTests Addressing (spanOutside storageLength here) k (spanOutside storageLength there))
-    (twoTests Protection (forbidden kind p (here .real) (here .key)) k (forbidden kind p (there .real) (there .key)))
+    firstOf (stopAt Addressing k (leb storageLength (there .real)))
+    (firstOf (stopAt Protection 0 (spanForbidden p kind here)) (stopAt Protection k (spanForbidden p kind there)))

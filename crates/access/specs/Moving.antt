@@ -1,9 +1,8 @@
--- Completing a span: bytes that go from one list to another, what a fetch and a store leave of storage and buffer, and the key.
-use Prim.Native.Nat.{ℕ, _+_, _≤_}
+-- Completing a span: bytes that go from one list to another, and the key.
+use Prim.Native.Nat.{ℕ, _+_, _<_, _≤_}
 use mathlib.Core.List.{List}
 use lib.ListN.{getD, set}
 use Rattle.machine.specs.declared.AccessKind.{AccessKind}
-use Rattle.machine.specs.declared.AccessKind.the-variants.{Fetch, Store}
 use Rattle.machine.specs.Lists.{written}
 use Rattle.machine.specs.Numbers.{addressSpace}
 use Rattle.machine.specs.Protection.{recorded}
@@ -20,14 +19,10 @@ pub record Fits (atLength at fromLength from real n : ℕ) : Type 0 where
 unfoldable pub moved : List ℕ → ℕ → List ℕ → ℕ → ℕ → List ℕ
 moved target at source from n = written target (λ j. at + j) (λ j. getD source (from + j) 0) n
 
--- storage and buffer after n bytes of an access, from index `at` on in storage and from index `from` on in the buffer
-unfoldable pub storageMoved : AccessKind → List ℕ → ℕ → List ℕ → ℕ → ℕ → List ℕ
-storageMoved Fetch storage at buffer from n = storage
-storageMoved Store storage at buffer from n = moved storage at buffer from n
-
-unfoldable pub bufferMoved : AccessKind → List ℕ → ℕ → List ℕ → ℕ → ℕ → List ℕ
-bufferMoved Fetch storage at buffer from n = moved buffer from storage at n
-bufferMoved Store storage at buffer from n = buffer
+-- n bytes of a span fit storage, and the buffer from index `from` on; and the key of its unit is there
+abbrev pub SpanFits : Span → (from n storageLength keyLength bufferLength : ℕ) → Type 0
+SpanFits here from n storageLength keyLength bufferLength =
+    Fits storageLength (here .absolute) bufferLength from (here .real) n × (here .unit < keyLength)
 
 -- the keys with the access recorded in that of a span's unit
 abbrev pub keyRecorded : AccessKind → List ℕ → Span → List ℕ

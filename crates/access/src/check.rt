@@ -1,5 +1,6 @@
-// The table of answers for an access. Lines 64, 65 and 66 test the request as a whole; lines 1, 2, 19 and 6 are for instructions only; lines
-// 5 and 4 are tested at the first byte of each of its one or two spans.
+// The table of answers for an access. Lines 64, 65 and 66 test the request as a whole, and line 5 its first byte; lines 1, 2, 19 and 6 are for
+// instructions only; then lines 5 and 4 are tested at the first byte in each of its one or two units. Each line returns early, for speed
+// (docs/BENCHMARK.md).
 use crate::span::Span;
 use machine::AccessKind;
 use machine::Processor;
@@ -7,23 +8,27 @@ use machine::Reason;
 use machine::Request;
 use machine::Settings;
 use machine::Verdict;
-use machine::answers::first_of;
 use machine::answers::refuse;
+use machine::answers::stops;
 use machine::numbers::OPERAND_LIMIT;
 use machine::numbers::valid;
-use storage_key::forbidden;
+use prefixing::add24;
+use storage_key::low_protected;
+use storage_key::permits;
 ghost use mathlib.Core.Path.{_≡_};
+ghost use Rattle.machine.specs.Protection.{forbidden as isForbidden};
 ghost use Rattle.machine.specs.Table.{operandInvalid};
-ghost use Rattle.access.specs.ByUnit.{spanOutside, twoTests, firstLines, linesOfOne, linesOfTwo};
+ghost use Rattle.storage_key.specs.Entries.{permissions};
+ghost use Rattle.access.specs.ByUnit.{firstLines, linesOfOne, linesOfTwo};
 
 // Line 66.
-fn operand_invalid(kind: AccessKind, address: u32, count: u32, buffer_length: usize) -> bool
+fn operand_invalid(kind: AccessKind, address: u32, count: usize, buffer_length: usize) -> bool
     ensures { λ r. ⌜ r ≡ operandInvalid (Request.Access kind address count) «buffer_length» ⌝ }
 {
-    (count == 0) | (256 < count) | (OPERAND_LIMIT <= address) | (buffer_length < count as usize)
+    (count == 0) | (256 < count) | (OPERAND_LIMIT <= address) | (buffer_length < count)
 }
 
-// Lines 64, 65 and 66 for a processor with the record p.
+// Lines 64, 65 and 66 for a processor with the record p, and line 5 at the first byte.
 pub(crate) fn first_lines(
     settings: Settings,
     storage_length: usize,
@@ -31,53 +36,42 @@ pub(crate) fn first_lines(
     p: Processor,
     kind: AccessKind,
     address: u32,
-    count: u32,
+    count: usize,
     buffer_length: usize,
 ) -> Verdict
     ensures { λ r. ⌜ r ≡ firstLines settings «storage_length» «key_length» p kind address count «buffer_length» ⌝ }
 {
     let machine = valid(settings, storage_length, key_length, p);
-    let invalid = operand_invalid(kind, address, count, buffer_length);
-    first_of(machine, refuse(Reason::Operand, invalid))
-}
-
-// Line 5 at the first byte of a span.
-fn outside(storage_length: usize, here: Span) -> bool
-    ensures { λ r. ⌜ r ≡ spanOutside «storage_length» here ⌝ }
-{
-    storage_length <= here.real as usize
-}
-
-// Lines 5 and 4 of an access in one unit. The first returns early, for speed (docs/BENCHMARK.md).
-pub(crate) fn lines_of_one(
-    storage_length: usize,
-    p: Processor,
-    kind: AccessKind,
-    here: Span,
-) -> Verdict
-    ensures { λ r. ⌜ r ≡ linesOfOne «storage_length» p kind here ⌝ }
-{
-    if outside(storage_length, here) {
+    if stops(machine) {
+        return machine;
+    }
+    if operand_invalid(kind, address, count, buffer_length) {
         return Verdict::Stop {
-            reason: Reason::Addressing,
+            reason: Reason::Operand,
             place: 0,
         };
     }
-    let protected = forbidden(kind, p, here.real, here.key);
-    refuse(Reason::Protection, protected)
+    let real = add24(address, 0);
+    refuse(Reason::Addressing, storage_length <= real as usize)
 }
 
-// A line of an access in two units: place 0 where the first test holds, else place k where the second does.
-fn two_tests(reason: Reason, here: bool, k: u32, there: bool) -> Verdict
-    ensures { λ r. ⌜ r ≡ twoTests reason here k there ⌝ }
+// A byte with this real address and the key of its unit is forbidden to an access of this kind, whose access key has these permissions.
+fn forbidden(p: Processor, kind: AccessKind, allowed: u32, real: u32, key: u8) -> bool
+    requires { ⌜ allowed ≡ permissions kind (p .«psw_key») ⌝ }
+    ensures { λ r. ⌜ r ≡ isForbidden kind p real key ⌝ }
 {
-    if here {
-        return Verdict::Stop { reason, place: 0 };
-    }
-    if there {
-        return Verdict::Stop { reason, place: k };
-    }
-    Verdict::Clear
+    low_protected(kind, p, real) | !permits(allowed, key)
+}
+
+// Line 4 of an access in one unit.
+pub(crate) fn lines_of_one(p: Processor, kind: AccessKind, allowed: u32, here: Span) -> Verdict
+    requires { ⌜ allowed ≡ permissions kind (p .«psw_key») ⌝ }
+    ensures { λ r. ⌜ r ≡ linesOfOne p kind here ⌝ }
+{
+    refuse(
+        Reason::Protection,
+        forbidden(p, kind, allowed, here.real, here.key),
+    )
 }
 
 // Lines 5 and 4 of an access in two units, byte k being the first in the second unit.
@@ -85,23 +79,31 @@ pub(crate) fn lines_of_two(
     storage_length: usize,
     p: Processor,
     kind: AccessKind,
+    allowed: u32,
     here: Span,
     k: u32,
     there: Span,
 ) -> Verdict
+    requires { ⌜ allowed ≡ permissions kind (p .«psw_key») ⌝ }
     ensures { λ r. ⌜ r ≡ linesOfTwo «storage_length» p kind here k there ⌝ }
 {
-    let addressing = two_tests(
-        Reason::Addressing,
-        outside(storage_length, here),
-        k,
-        outside(storage_length, there),
-    );
-    let protection = two_tests(
-        Reason::Protection,
-        forbidden(kind, p, here.real, here.key),
-        k,
-        forbidden(kind, p, there.real, there.key),
-    );
-    first_of(addressing, protection)
+    if storage_length <= there.real as usize {
+        return Verdict::Stop {
+            reason: Reason::Addressing,
+            place: k,
+        };
+    }
+    if forbidden(p, kind, allowed, here.real, here.key) {
+        return Verdict::Stop {
+            reason: Reason::Protection,
+            place: 0,
+        };
+    }
+    if forbidden(p, kind, allowed, there.real, there.key) {
+        return Verdict::Stop {
+            reason: Reason::Protection,
+            place: k,
+        };
+    }
+    Verdict::Clear
 }

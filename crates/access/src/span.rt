@@ -14,6 +14,8 @@ pub(crate) struct Span {
     pub(crate) real: u32,
     // The absolute address of its first byte.
     pub(crate) absolute: u32,
+    // The rule of prefixing that gave it.
+    pub(crate) rule: u32,
     // The unit.
     pub(crate) unit: usize,
     // The unit's key.
@@ -32,12 +34,14 @@ pub(crate) fn span_at(settings: Settings, keys: &[u8], p: Processor, address: u3
     ensures { λ r. ⌜ r ≡ spanAt settings (now (keys .entry)) p address i ⌝ }
 {
     let real = add24(address, i);
-    let absolute = prefixed(p.prefix, real).absolute;
+    let first = prefixed(p.prefix, real);
+    let absolute = first.absolute;
     let unit = unit_of(settings, absolute as usize);
     let key = key_of_unit(keys, unit);
     Span {
         real,
         absolute,
+        rule: first.rule,
         unit,
         key,
     }
@@ -47,9 +51,6 @@ pub(crate) fn span_at(settings: Settings, keys: &[u8], p: Processor, address: u3
 pub(crate) fn bytes_to_unit_end(settings: Settings, address: u32) -> u32
     ensures { λ r. ⌜ r ≡ toUnitEnd settings address ⌝ }
 {
-    if settings.four_k {
-        4096 - address % 4096
-    } else {
-        2048 - address % 2048
-    }
+    let size = if settings.four_k { 4096 } else { 2048 };
+    size - address % size
 }

@@ -1,4 +1,4 @@
-// Completing one span of an access: moving its bytes, and recording the access in the key of its unit.
+// Completing one span of an access: recording the access in the key of its unit, and moving its bytes.
 use crate::span::Span;
 use machine::AccessKind;
 use machine::numbers::ADDRESS_SPACE;
@@ -8,7 +8,7 @@ ghost use Prim.Native.Nat.{_+_, _-_, _<_};
 ghost use mathlib.Core.Path.{_≡_};
 ghost use lib.ListN.{length};
 ghost use Rattle.machine.specs.Numbers.{addressSpace, add24 as sum24};
-ghost use Rattle.access.specs.Moving.{Fits, moved, storageMoved, bufferMoved, keyRecorded};
+ghost use Rattle.access.specs.Moving.{Fits, SpanFits, moved, keyRecorded};
 
 // How far byte j of a run that does not wrap is from the run's first byte: its real address is made by the 24-bit addition. The two tests never
 // hold. They stand beside the addition so that the compiler sees that the answer is j in every case, and no addition is left.
@@ -44,37 +44,38 @@ fn move_run(target: &mut [u8], at: usize, source: &[u8], from: usize, real: u32,
     }
 }
 
-// Moves the first n bytes of a span: a store from the buffer into storage, a fetch from storage into the buffer; in the buffer from `from` on.
-fn move_span(storage: &mut [u8], kind: AccessKind, here: Span, buffer: &mut [u8], from: u32, n: u32)
-    requires { ⌜ Fits (length (now storage)) (here .absolute) (length (now buffer)) from (here .real) n ⌝ }
-    ensures { λ _. ⌜ (now (storage .exit) ≡ storageMoved kind (now (storage .entry)) (here .absolute) (now (buffer .entry)) from n)
-        × (now (buffer .exit) ≡ bufferMoved kind (now (storage .entry)) (here .absolute) (now (buffer .entry)) from n) ⌝ }
-{
-    let at = here.absolute as usize;
-    let from = from as usize;
-    let n = n as usize;
-    match kind {
-        AccessKind::Fetch => move_run(buffer, from, &storage[..], at, here.real, n),
-        AccessKind::Store => move_run(storage, at, &buffer[..], from, here.real, n),
-    }
-}
-
-// Moves the first n bytes of a span and records the access in the key of its unit.
-pub(crate) fn complete_span(
-    storage: &mut [u8],
+// A fetch records the access in the key of a span's unit, and moves the first n bytes of the span into the buffer, from `from` on.
+pub(crate) fn fetch_span(
+    storage: &[u8],
     keys: &mut [u8],
-    kind: AccessKind,
     here: Span,
     buffer: &mut [u8],
-    from: u32,
-    n: u32,
+    from: usize,
+    n: usize,
 )
-    requires { ⌜ Fits (length (now storage)) (here .absolute) (length (now buffer)) from (here .real) n × (here .unit < length (now keys)) ⌝ }
-    ensures { λ _. ⌜ (now (storage .exit) ≡ storageMoved kind (now (storage .entry)) (here .absolute) (now (buffer .entry)) from n)
-        × (now (buffer .exit) ≡ bufferMoved kind (now (storage .entry)) (here .absolute) (now (buffer .entry)) from n)
-        × (now (keys .exit) ≡ keyRecorded kind (now (keys .entry)) here) ⌝ }
+    requires { ⌜ SpanFits here from n (length (now storage)) (length (now keys)) (length (now buffer)) ⌝ }
+    ensures { λ _. ⌜ (now (keys .exit) ≡ keyRecorded AccessKind.Fetch (now (keys .entry)) here)
+        × (now (buffer .exit) ≡ moved (now (buffer .entry)) from (now (storage .entry)) (here .absolute) n) ⌝ }
 {
-    move_span(storage, kind, here, buffer, from, n);
     let unit = here.unit;
-    keys[unit] = recorded(kind, here.key);
+    keys[unit] = recorded(AccessKind::Fetch, here.key);
+    move_run(buffer, from, storage, here.absolute as usize, here.real, n);
+}
+
+// A store records the access in the key of a span's unit, and moves n bytes of the buffer, from `from` on, into the first of the span.
+pub(crate) fn store_span(
+    storage: &mut [u8],
+    keys: &mut [u8],
+    here: Span,
+    buffer: &[u8],
+    from: usize,
+    n: usize,
+)
+    requires { ⌜ SpanFits here from n (length (now storage)) (length (now keys)) (length (now buffer)) ⌝ }
+    ensures { λ _. ⌜ (now (keys .exit) ≡ keyRecorded AccessKind.Store (now (keys .entry)) here)
+        × (now (storage .exit) ≡ moved (now (storage .entry)) (here .absolute) (now (buffer .entry)) from n) ⌝ }
+{
+    let unit = here.unit;
+    keys[unit] = recorded(AccessKind::Store, here.key);
+    move_run(storage, here.absolute as usize, buffer, from, here.real, n);
 }

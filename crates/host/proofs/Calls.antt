@@ -1,8 +1,8 @@
 -- A call by what the storage unit serves: completed, refused, or without a record. A completed request had a record that line 65 lets pass, so
 -- its bytes are known, and what is written over them is the record that the step leaves. Assumes nothing.
 use Prim.Native.Nat.{ℕ, _+_, _<_}
-use mathlib.Core.Path.{_≡_, sym, ap, subst, _∙_}
-use mathlib.Core.Bool.{true}
+use mathlib.Core.Path.{_≡_, refl, sym, ap, subst, _∙_}
+use mathlib.Core.Bool.{Bool, true, false, not}
 use mathlib.Core.Logic.{_≢_}
 use mathlib.Core.List.{List}
 use native.Mathlib.Decide.{ℕ-discrete}
@@ -14,13 +14,15 @@ use Rattle.machine.specs.declared.Request.{Request}
 use Rattle.machine.specs.declared.Answer.{Answer}
 use Rattle.machine.specs.Lists.{written}
 use Rattle.machine.specs.Numbers.{recordValid}
-use Rattle.machine.specs.Answers.{numberOf, values}
+use Rattle.machine.specs.Answers.{numberOf, values, answerOf}
 use Rattle.machine.specs.Step.{withCode, withPrefix, outcome, step}
+use Rattle.machine.specs.Pair.{withoutRecord}
 use Rattle.machine.proofs.AbsoluteAddress.{record-tested}
 use Rattle.machine.proofs.BeforeProtection.{cleared}
 use Rattle.machine.proofs.Conditions.{answer-in-table}
+use Rattle.machine.proofs.OwnRecord.{wrong-record}
 use Rattle.machine.proofs.Requests.{refused-changes-nothing, completed-cleared, controls-stay}
-use Rattle.host.specs.Boundary.{recordAt, recordBytes, packed, Packs, callOutcome, recordsLeft, callServed, CallCondition1}
+use Rattle.host.specs.Boundary.{reservedZeroAt, recordAt, recordBytes, packed, Packs, callOutcome, recordsLeft, callServed, CallCondition1}
 use Rattle.host.specs.Writing.{recordPut}
 use Rattle.host.proofs.Records.{Holds, valid-record-is-written, record-put, same-put}
 
@@ -29,6 +31,20 @@ pub nothing-changes : (answer : Answer) {result : ℕ} {storage keys bytes buffe
     → storage′ ≡ storage → keys′ ≡ keys → bytes′ ≡ bytes → buffer′ ≡ buffer
     → CallCondition1 result storage keys bytes buffer storage′ keys′ bytes′ buffer′
 nothing-changes answer given a b c d = record { answered = rw (given .1) (answer-in-table answer); unchanged = λ h. (a, b, c, d) }
+
+-- a test that was turned round
+pub turned-true : (b : Bool) → not b ≡ true → b ≡ false
+turned-true true e = sym e
+turned-true false e = refl
+
+pub turned-false : (b : Bool) → not b ≡ false → b ≡ true
+turned-false true e = refl
+turned-false false e = sym e
+
+-- a record with a reserved bit on is one that line 65 refuses
+pub reserved-wrong : (bytes : List ℕ) (at storageLength : ℕ) → reservedZeroAt bytes at ≡ false
+    → recordValid storageLength (recordAt bytes at) ≡ false
+reserved-wrong bytes at storageLength on = rw on refl
 
 -- The request of a processor whose record p stands in the bytes from `at` on leaves these, and q as its record.
 module _ (bytes : List ℕ) (s : Settings) (storage keys : List ℕ) (at : ℕ) {p : Processor} (r : Request) (buffer : List ℕ)
@@ -78,7 +94,7 @@ module _ (bytes : List ℕ) (s : Settings) (storage keys : List ℕ) (at : ℕ) 
   unfolding recordsLeft
   refused-call d =
       let u = stepped ∙ refused-changes-nothing s storage keys p r buffer (λ e. d (number-same ∙ e)) in
-      let same = put ∙ ap (recordPut bytes at p) (ap (λ o. o .processor) u) ∙ same-put bytes at p in (
+      let same = put ∙ ap (recordPut bytes at p) (ap (λ o. o .processor) u) ∙ same-put bytes at p read in (
         nothing-changes answer given (ap (λ o. o .storage) u) (ap (λ o. o .keys) u) same (ap (λ o. o .buffer) u),
         rw (given .0, same) (kept-bytes ∙ by-bytes),
       )
@@ -93,3 +109,15 @@ module _ (bytes : List ℕ) (s : Settings) (storage keys : List ℕ) (at : ℕ) 
       go : Dec (numberOf answer ≡ 0) → CallMet
       go (yes zero) = completed-call zero
       go (no d) = refused-call d
+
+-- both conditions of a call whose record has a reserved bit on: it is refused as one that has no record
+pub reserved-call : (bytes : List ℕ) (s : Settings) (storage keys : List ℕ) (at : ℕ) (r : Request) (buffer : List ℕ) {answer : Answer} {result : ℕ}
+    → reservedZeroAt bytes at ≡ false → answer ≡ answerOf (withoutRecord s (length storage) (length keys)) 0 0
+    → ((i : ℕ) → getD bytes i 0 < 256) → Packs result answer
+    → CallCondition1 result storage keys bytes buffer storage keys bytes buffer
+    × (callOutcome result storage keys bytes buffer ≡ callServed bytes at (step s storage keys (recordAt bytes at) r buffer))
+reserved-call bytes s storage keys at r buffer {answer} on refused byte given =
+    let p = recordAt bytes at in
+    let stepped : outcome answer storage keys p buffer ≡ step s storage keys p r buffer =
+    rw refused (wrong-record s storage keys p r buffer (reserved-wrong bytes at (length storage) on)) in
+    served-call bytes s storage keys at r buffer answer refl stepped byte (sym (same-put bytes at p refl)) given

@@ -19,7 +19,7 @@ use Rattle.machine.specs.Step.{withCode, withPrefix}
 use Rattle.machine.proofs.Written.{written-there, written-back}
 use Rattle.machine.proofs.Verdicts.{both}
 use Rattle.host.specs.Boundary.{bit, value, reservedZero, recordAt, prefixBytes, recordBytes}
-use Rattle.host.specs.Writing.{codePut, prefixPut, recordPut}
+use Rattle.host.specs.Writing.{prefixPut, recordPut}
 
 -- the bytes from `at` on are those of p
 abbrev pub Holds : List ℕ → ℕ → Processor → Type 0
@@ -136,13 +136,6 @@ valid-record-is-written bytes at storageLength byte valid =
 
 -- Over the bytes of p, condition code and prefix are all that has to be written of q, which is p but for these.
 module _ (bytes : List ℕ) (at : ℕ) (p q : Processor) (holds : Holds bytes at p) (kept : q ≡ withPrefix (withCode p (q .code)) (q .prefix)) where
-  code-put : codePut bytes at (p .code) (q .code) ≡ set bytes (at + 2) (q .code)
-  code-put = go (ℕ-discrete (p .code) (q .code))
-    where
-      go : Dec (p .code ≡ q .code) → codePut bytes at (p .code) (q .code) ≡ set bytes (at + 2) (q .code)
-      go (yes e) = rw (eq-eqb _ _ e, ← e, ← holds 2 (omega arith)) (sym (set-getD bytes (at + 2) 0))
-      go (no d) = rw (ne-eqb _ _ d)
-
   prefix-held : (i : ℕ) → i < 4 → getD (set bytes (at + 2) (q .code)) (at + (4 + i)) 0 ≡ getD (prefixBytes (p .prefix)) i 0
   prefix-held i h =
       getD-set-other bytes (at + 2) (at + (4 + i)) (q .code) 0 (λ e. omega arith)
@@ -173,8 +166,8 @@ module _ (bytes : List ℕ) (at : ℕ) (p q : Processor) (holds : Holds bytes at
       back i h same = rw (same ∙ sym (holds i h)) (set-getD bytes (at + i) 0)
 
   pub record-put : recordPut bytes at p q ≡ written bytes (λ i. at + i) (λ i. getD (recordBytes q) i 0) 8
-  record-put = rw (code-put, prefix-put) code-and-prefix-written
+  record-put = rw prefix-put code-and-prefix-written
 
--- a record over itself: nothing is written
-pub same-put : (bytes : List ℕ) (at : ℕ) (p : Processor) → recordPut bytes at p p ≡ bytes
-same-put bytes at p = rw (eq-eqb (p .code) _ refl, eq-eqb (p .prefix) _ refl)
+-- a record over itself: nothing changes
+pub same-put : (bytes : List ℕ) (at : ℕ) (p : Processor) → p ≡ recordAt bytes at → recordPut bytes at p p ≡ bytes
+same-put bytes at p read = rw (eq-eqb (p .prefix) _ refl, read) (set-getD bytes (at + 2) 0)

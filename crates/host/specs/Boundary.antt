@@ -36,10 +36,13 @@ settingsOf w = record { «four_k» = bit 1 w; extensions = bit 2 w }
 abbrev pub reservedZero : ℕ → ℕ → Bool
 reservedZero controls fourth = ltb controls 8 && eqb fourth 0
 
+abbrev pub reservedZeroAt : List ℕ → ℕ → Bool
+reservedZeroAt bytes at = reservedZero (getD bytes (at + 1) 0) (getD bytes (at + 3) 0)
+
 abbrev pub recordAt : List ℕ → ℕ → Processor
 recordAt bytes at =
     record {
-      «psw_key» = cond (reservedZero (getD bytes (at + 1) 0) (getD bytes (at + 3) 0)) (getD bytes at 0) 255;
+      «psw_key» = cond (reservedZeroAt bytes at) (getD bytes at 0) 255;
       problem = bit 1 (getD bytes (at + 1) 0);
       «low_protection» = bit 2 (getD bytes (at + 1) 0);
       «key_control» = bit 4 (getD bytes (at + 1) 0);

@@ -1,26 +1,31 @@
 // The boundary for programs in C, Rust and other languages: numbers and byte slices only. Nothing is asked of the caller: whatever the
 // numbers and bytes are, the call ends with an answer of the table, and one that is not completed changes nothing.
-mod record;
-mod request;
+pub mod record;
+pub mod request;
 
 use crate::record::put_record;
 use crate::record::record_at;
+use crate::record::reserved_zero;
 use crate::record::settings_of;
 use crate::request::pack;
 use crate::request::request_of;
+use access::access;
+use key_instruction::key_instruction;
 use machine::Answer;
 use machine::Reason;
+use machine::Request;
 use machine::Settings;
 use machine::answers::answer_of;
 use machine::numbers::without_record;
-use storage_unit::serve;
+use storage_unit::prefix::prefix_instruction;
 ghost use mathlib.Core.Path.{_≡_};
 ghost use Prim.Native.Nat.{_*_, _<_};
 ghost use lib.ListN.{length};
 ghost use Rattle.machine.specs.Step.{step};
 ghost use Rattle.host.specs.Boundary.{recordAt, requestOf, callOutcome, callServed, called, CallCondition1};
 
-// A request of processor 0 or 1 over the sixteen bytes of the records. What it changes of its own processor's record is written back.
+// A request of processor 0 or 1 over the sixteen bytes of the records. What an instruction changes of its own processor's record is written
+// back. That requests are told apart here, and not by `storage_unit::serve`, is for speed (docs/BENCHMARK.md).
 fn serve_bytes(
     settings: Settings,
     storage: &mut [u8],
@@ -40,13 +45,32 @@ fn serve_bytes(
         (recordAt (now (records .entry)) («processor_number» * 8)) (requestOf operation first second) (now (buffer .entry))) ⌝ }
 {
     let at = processor_number * 8;
+    if !reserved_zero(&records[..], at) {
+        let refused = without_record(settings, storage.len(), keys.len());
+        return pack(answer_of(refused, 0, 0));
+    }
     let p = record_at(&records[..], at);
-    let asked = request_of(operation, first, second);
-    let served = serve(settings, storage, keys, p, asked, buffer);
-    let answer = served.answer;
-    let processor = served.processor;
-    put_record(records, at, p, processor);
-    pack(answer)
+    match request_of(operation, first, second) {
+        Request::Access {
+            kind,
+            address,
+            count,
+        } => pack(access(settings, storage, keys, p, kind, address, count, buffer)),
+        Request::Key(instruction) => {
+            let served = key_instruction(settings, &storage[..], keys, p, instruction);
+            let answer = served.answer;
+            let processor = served.processor;
+            put_record(records, at, p, processor);
+            pack(answer)
+        }
+        Request::Prefix(instruction) => {
+            let served = prefix_instruction(settings, &storage[..], &keys[..], p, instruction);
+            let answer = served.answer;
+            let processor = served.processor;
+            put_record(records, at, p, processor);
+            pack(answer)
+        }
+    }
 }
 
 // One request for one processor. `settings`: 1 the 4K facility, 2 the extensions. `records`: sixteen bytes, eight for each processor.

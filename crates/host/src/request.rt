@@ -52,7 +52,7 @@ pub(crate) fn request_of(operation: u32, first: u32, second: u32) -> Request
 }
 
 // The answer packed in one number, with the answer's own number as its highest sixteen bits.
-pub(crate) fn pack(answer: Answer) -> u64
+pub fn pack(answer: Answer) -> u64
     ensures { λ r. ⌜ Packs r answer ⌝ }
 {
     match answer {

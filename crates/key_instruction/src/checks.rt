@@ -4,8 +4,8 @@ use machine::Processor;
 use machine::Reason;
 use machine::Settings;
 use machine::Verdict;
-use machine::answers::first_of;
 use machine::answers::refuse;
+use machine::answers::stops;
 use machine::numbers::valid;
 ghost use mathlib.Core.Path.{_≡_};
 ghost use mathlib.Core.Bool.{not, _&&_};
@@ -18,10 +18,13 @@ fn operand_lines(settings: Settings, decoded: Decoded) -> Verdict
         ≡ firstOf (line Reason.Operand (decoded .«address_invalid»))
         (line Reason.Operation (decoded .extended && not (settings .extensions))) ⌝ }
 {
-    first_of(
-        refuse(Reason::Operand, decoded.address_invalid),
-        refuse(Reason::Operation, decoded.extended & !settings.extensions),
-    )
+    if decoded.address_invalid {
+        return Verdict::Stop {
+            reason: Reason::Operand,
+            place: 0,
+        };
+    }
+    refuse(Reason::Operation, decoded.extended & !settings.extensions)
 }
 
 // Lines 2, 19 and 6: the state, CR0 bit 7, and bits 28-31 of R2.
@@ -31,18 +34,23 @@ fn state_lines(settings: Settings, p: Processor, decoded: Decoded) -> Verdict
         (firstOf (line Reason.SpecialOperation (not (decoded .extended) && settings .«four_k» && not (p .«key_control»)))
         (line Reason.Specification (decoded .«low_bits_on»))) ⌝ }
 {
-    let special = refuse(
-        Reason::SpecialOperation,
-        !decoded.extended & settings.four_k & !p.key_control,
-    );
-    let specification = refuse(Reason::Specification, decoded.low_bits_on);
-    first_of(
-        refuse(Reason::Privileged, p.problem),
-        first_of(special, specification),
-    )
+    if p.problem {
+        return Verdict::Stop {
+            reason: Reason::Privileged,
+            place: 0,
+        };
+    }
+    if !decoded.extended & settings.four_k & !p.key_control {
+        return Verdict::Stop {
+            reason: Reason::SpecialOperation,
+            place: 0,
+        };
+    }
+    refuse(Reason::Specification, decoded.low_bits_on)
 }
 
-// The lines from 64 to 5 for an instruction of a processor with the record p.
+// The lines from 64 to 5 for an instruction of a processor with the record p. Here and in the groups above, a line that stops returns early,
+// for speed (docs/BENCHMARK.md).
 pub(crate) fn verdict(
     settings: Settings,
     storage_length: usize,
@@ -53,8 +61,16 @@ pub(crate) fn verdict(
     ensures { λ r. ⌜ r ≡ decodedVerdict settings «storage_length» «key_length» p decoded ⌝ }
 {
     let machine = valid(settings, storage_length, key_length, p);
+    if stops(machine) {
+        return machine;
+    }
     let operand = operand_lines(settings, decoded);
+    if stops(operand) {
+        return operand;
+    }
     let state = state_lines(settings, p, decoded);
-    let address = refuse(Reason::Addressing, storage_length <= decoded.block as usize);
-    first_of(machine, first_of(operand, first_of(state, address)))
+    if stops(state) {
+        return state;
+    }
+    refuse(Reason::Addressing, storage_length <= decoded.block as usize)
 }

@@ -51,7 +51,7 @@ fn perform(keys: &mut [u8], code: u8, u: usize, two: bool, operation: KeyOperati
 }
 
 // A key instruction of a processor with the record p: the step with an empty buffer, since it takes none. Of storage it looks at the
-// length alone. That its block is prefixed before a line is tested is for speed (docs/BENCHMARK.md).
+// length alone.
 pub fn key_instruction(
     settings: Settings,
     storage: &[u8],
@@ -63,7 +63,6 @@ pub fn key_instruction(
         ≡ step settings (now (storage .entry)) (now (keys .entry)) p (Request.Key instruction) [] ⌝ }
 {
     let decoded = decode::decode(instruction);
-    let block = prefixed(p.prefix, decoded.block);
     let verdict = checks::verdict(settings, storage.len(), keys.len(), p, decoded);
     if stops(verdict) {
         return Served {
@@ -71,6 +70,7 @@ pub fn key_instruction(
             processor: p,
         };
     }
+    let block = prefixed(p.prefix, decoded.block);
     let two = decoded.extended & !settings.four_k;
     let operation = decoded.operation;
     let u = unit_of(settings, block.absolute as usize);

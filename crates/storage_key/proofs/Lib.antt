@@ -1,2 +1,2 @@
 -- What the proofs about storage keys share.
-pub mod Permissions
+pub mod Entries

@@ -4,7 +4,8 @@ use machine::Processor;
 ghost use mathlib.Core.Path.{_≡_};
 ghost use Prim.Native.Nat.{_<_, max};
 ghost use Rattle.machine.specs.Key.{keyInWord, afterReset, codeOf, joined as joinedOf};
-ghost use Rattle.machine.specs.Protection.{permitted as isPermitted, lowProtected, forbidden as isForbidden, recorded as recordedBy};
+ghost use Rattle.machine.specs.Protection.{permitted as isPermitted, lowProtected, recorded as recordedBy};
+ghost use Rattle.storage_key.specs.Entries.{permissions as permissionsOf, permits as permitsKey};
 
 // The key in bits 24-30 of a register word.
 pub fn key_in(word: u32) -> u8
@@ -54,45 +55,80 @@ pub fn joined(low: u8, high: u8) -> u8
     low / 8 * 8 + referenced * 4 + changed * 2
 }
 
-// Who may fetch and store: 512 entries, that of an access key and a storage key at index access key x 32 + the five leading bits of the storage
-// key. An access key has a row of 32 entries, with a word for fetch and a word for store; an entry has a bit in each, from left to right, which
-// is one where that is permitted. Two entries side by side are for one value of the access-control bits, with fetch-protection bit 0 and 1:
-// they have 11 in the word for fetch and 11 in the word for store where the keys match, else 10 and 00. Why no larger: docs/BENCHMARK.md.
-const PERMISSIONS: [[u32; 2]; 16] = [
-    [0xFFFFFFFF, 0xFFFFFFFF],
-    [0xBAAAAAAA, 0x30000000],
-    [0xAEAAAAAA, 0x0C000000],
-    [0xABAAAAAA, 0x03000000],
-    [0xAAEAAAAA, 0x00C00000],
-    [0xAABAAAAA, 0x00300000],
-    [0xAAAEAAAA, 0x000C0000],
-    [0xAAABAAAA, 0x00030000],
-    [0xAAAAEAAA, 0x0000C000],
-    [0xAAAABAAA, 0x00003000],
-    [0xAAAAAEAA, 0x00000C00],
-    [0xAAAAABAA, 0x00000300],
-    [0xAAAAAAEA, 0x000000C0],
-    [0xAAAAAABA, 0x00000030],
-    [0xAAAAAAAE, 0x0000000C],
-    [0xAAAAAAAB, 0x00000003],
+// Who may fetch and store: 512 entries, one for each access key and each value of the five leading bits of a storage key. The 32 entries of an
+// access key are a word for fetch, among the first sixteen, and a word for store, among the second; an entry has a bit in each, from left to
+// right, which is one where that is permitted. Two entries side by side are for one value of the access-control bits, with fetch-protection
+// bit 0 and 1: they have 11 in the word for fetch and 11 in the word for store where the keys match, else 10 and 00. Why no larger, and why
+// the words of a kind stand together: docs/BENCHMARK.md.
+const PERMISSIONS: [[u32; 16]; 2] = [
+    [
+        0xFFFFFFFF,
+        0xBAAAAAAA,
+        0xAEAAAAAA,
+        0xABAAAAAA,
+        0xAAEAAAAA,
+        0xAABAAAAA,
+        0xAAAEAAAA,
+        0xAAABAAAA,
+        0xAAAAEAAA,
+        0xAAAABAAA,
+        0xAAAAAEAA,
+        0xAAAAABAA,
+        0xAAAAAAEA,
+        0xAAAAAABA,
+        0xAAAAAAAE,
+        0xAAAAAAAB,
+    ],
+    [
+        0xFFFFFFFF,
+        0x30000000,
+        0x0C000000,
+        0x03000000,
+        0x00C00000,
+        0x00300000,
+        0x000C0000,
+        0x00030000,
+        0x0000C000,
+        0x00003000,
+        0x00000C00,
+        0x00000300,
+        0x000000C0,
+        0x00000030,
+        0x0000000C,
+        0x00000003,
+    ],
 ];
 
-// The access key and the storage key permit an access. An access key over 15 has no row and matches no storage key: it takes the entry of access
-// key 1 and access control 0, which do not match, with the fetch-protection bit of the storage key.
-pub fn permitted(kind: AccessKind, access_key: u8, key: u8) -> bool
-    ensures { λ r. ⌜ r ≡ isPermitted kind «access_key» key ⌝ }
+// The permissions of an access key, a bit for each value of the five leading bits of a storage key, from left to right. An access key over 15
+// has no entries and matches no storage key: a fetch is permitted where the fetch-protection bit is zero, a store nowhere.
+pub fn permissions(kind: AccessKind, access_key: u8) -> u32
+    ensures { λ r. ⌜ r ≡ permissionsOf kind «access_key» ⌝ }
 {
-    let leading = key as usize / 8;
-    let index = if access_key < 16 {
-        access_key as usize * 32 + leading
-    } else {
-        32 + leading % 2
-    };
+    if 16 <= access_key {
+        return match kind {
+            AccessKind::Fetch => 0xAAAAAAAA,
+            AccessKind::Store => 0x00000000,
+        };
+    }
     let column = match kind {
         AccessKind::Fetch => 0,
         AccessKind::Store => 1,
     };
-    (PERMISSIONS[index / 32][column] >> (31 - index % 32)) % 2 == 1
+    PERMISSIONS[column][access_key as usize]
+}
+
+// What permissions say of a storage key.
+pub fn permits(permissions: u32, key: u8) -> bool
+    ensures { λ r. ⌜ r ≡ permitsKey permissions key ⌝ }
+{
+    (permissions >> (31 - key / 8)) % 2 == 1
+}
+
+// The access key and the storage key permit an access.
+pub fn permitted(kind: AccessKind, access_key: u8, key: u8) -> bool
+    ensures { λ r. ⌜ r ≡ isPermitted kind «access_key» key ⌝ }
+{
+    permits(permissions(kind, access_key), key)
 }
 
 // Low-address protection forbids an access to a real address.
@@ -103,11 +139,4 @@ pub fn low_protected(kind: AccessKind, p: Processor, real: u32) -> bool
         AccessKind::Fetch => false,
         AccessKind::Store => p.low_protection & (real < 512),
     }
-}
-
-// A byte with this real address and the key of its unit is forbidden to an access.
-pub fn forbidden(kind: AccessKind, p: Processor, real: u32, key: u8) -> bool
-    ensures { λ r. ⌜ r ≡ isForbidden kind p real key ⌝ }
-{
-    low_protected(kind, p, real) | !permitted(kind, p.psw_key, key)
 }

@@ -1,5 +1,5 @@
 // The storage unit: one request for one processor, one answer.
-mod prefix;
+pub mod prefix;
 
 use crate::prefix::prefix_instruction;
 use access::access;

@@ -75,7 +75,7 @@ fn complete(p: Processor, instruction: PrefixInstruction) -> Served
 
 // A prefix instruction for a processor with the record p. It takes no buffer: it is the step with an empty one. Of storage and key array it
 // looks at the lengths alone.
-pub(crate) fn prefix_instruction(
+pub fn prefix_instruction(
     settings: Settings,
     storage: &[u8],
     keys: &[u8],

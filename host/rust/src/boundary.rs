@@ -35,6 +35,42 @@ pub type RawRequest = unsafe extern "C" fn(
     buffer_length: usize,
 ) -> u64;
 
+/// The type of the C function that fetches: as many bytes as `count`, for a processor
+/// with the record `record`, as [`record_value`] gives it.
+///
+/// # Safety
+///
+/// As for [`RawRequest`]; the storage is only read.
+pub type RawFetch = unsafe extern "C" fn(
+    settings: u32,
+    storage: *const u8,
+    storage_length: usize,
+    keys: *mut u8,
+    keys_length: usize,
+    record: u64,
+    address: u32,
+    bytes: *mut u8,
+    count: usize,
+) -> u64;
+
+/// The type of the C function that stores: as many bytes as `count`, for a processor
+/// with the record `record`, as [`record_value`] gives it.
+///
+/// # Safety
+///
+/// As for [`RawRequest`]; the bytes to store are only read.
+pub type RawStore = unsafe extern "C" fn(
+    settings: u32,
+    storage: *mut u8,
+    storage_length: usize,
+    keys: *mut u8,
+    keys_length: usize,
+    record: u64,
+    address: u32,
+    bytes: *const u8,
+    count: usize,
+) -> u64;
+
 /// Setting: the 4K facility is present.
 pub const FOUR_K: u32 = 1;
 /// Setting: the key-instruction extensions are present.
@@ -111,24 +147,34 @@ const fn at(place: usize, byte: u8) -> u64 {
     (byte as u64) << (8 * place)
 }
 
-/// A record as bytes.
+/// A record as one number: that which its bytes make, the least significant first.
 #[inline]
-pub const fn encode_processor(processor: &Processor) -> [u8; RECORD_LENGTH] {
+pub const fn record_value(processor: &Processor) -> u64 {
     let controls = (processor.problem as u8 * PROBLEM)
         | (processor.low_protection as u8 * LOW_PROTECTION)
         | (processor.key_control as u8 * KEY_CONTROL);
-    let record = at(PSW_KEY_AT, processor.psw_key)
+    at(PSW_KEY_AT, processor.psw_key)
         | at(CONTROLS_AT, controls)
         | at(CODE_AT, processor.code)
-        | (processor.prefix as u64) << (8 * PREFIX_AT);
-    record.to_le_bytes()
+        | (processor.prefix as u64) << (8 * PREFIX_AT)
+}
+
+/// A record as bytes.
+#[inline]
+pub const fn encode_processor(processor: &Processor) -> [u8; RECORD_LENGTH] {
+    record_value(processor).to_le_bytes()
 }
 
 /// A record from its bytes. Where a reserved bit is on, the PSW key is taken for 255, so
 /// that a request for this processor is refused with [`Number::Record`].
 #[inline]
 pub const fn decode_processor(bytes: &[u8; RECORD_LENGTH]) -> Processor {
-    let record = u64::from_le_bytes(*bytes);
+    record_from_value(u64::from_le_bytes(*bytes))
+}
+
+/// A record from its number. Reserved bits as for [`decode_processor`].
+#[inline]
+pub const fn record_from_value(record: u64) -> Processor {
     let reserved = at(CONTROLS_AT, RESERVED_CONTROLS) | at(RESERVED_AT, 0xFF);
     Processor {
         psw_key: if record & reserved == 0 {

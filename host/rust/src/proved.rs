@@ -23,6 +23,40 @@ extern "C" {
         buffer: *mut u8,
         buffer_length: usize,
     ) -> u64;
+
+    /// The C function of the static library that fetches.
+    ///
+    /// # Safety
+    ///
+    /// As for every [`boundary::RawFetch`].
+    pub fn storage_unit_fetch(
+        settings: u32,
+        storage: *const u8,
+        storage_length: usize,
+        keys: *mut u8,
+        keys_length: usize,
+        record: u64,
+        address: u32,
+        bytes: *mut u8,
+        count: usize,
+    ) -> u64;
+
+    /// The C function of the static library that stores.
+    ///
+    /// # Safety
+    ///
+    /// As for every [`boundary::RawStore`].
+    pub fn storage_unit_store(
+        settings: u32,
+        storage: *mut u8,
+        storage_length: usize,
+        keys: *mut u8,
+        keys_length: usize,
+        record: u64,
+        address: u32,
+        bytes: *const u8,
+        count: usize,
+    ) -> u64;
 }
 
 /// Carries out one request for one processor.

@@ -1,19 +1,19 @@
--- `access` gives the answer by the verdict that `perform` found, with the rule of its first byte. Assumes nothing.
+-- `access` is `fetch` or `store`, by its kind. Assumes nothing.
 use borrow.Author.Needs.{needs}
 use Rattle.access.proofs.access.Statement.{statement}
 use Rattle.access.proofs.access.Tie as tie
 
-perform-requires : tie.Need-perform-requires
-perform-requires c κs = tt
+enum-told : tie.Need-enum-told
+enum-told c = search needs
 
-add24-requires : tie.Need-add24-requires
-add24-requires c κs = tt
+fetch-requires : tie.Need-fetch-requires
+fetch-requires c κs = search needs
 
-prefixed-requires : tie.Need-prefixed-requires
-prefixed-requires c κs = tt
+enum-told-2 : tie.Need-enum-told-2
+enum-told-2 c = search needs
 
-answer-of-requires : tie.Need-answer-of-requires
-answer-of-requires c κs = tt
+store-requires : tie.Need-store-requires
+store-requires c κs = search needs
 
 same-length : tie.Need-same-length
 same-length c = search needs
@@ -26,22 +26,38 @@ same-length-3 c = search needs
 
 returns : tie.Need-returns
 returns c =
-    let byte-0 = c .before in
-    let added = byte-0 .before in
-    let buffer-back = added .before .before in
-    let keys-back = buffer-back .before .before in
-    let storage-back = keys-back .before .before in
-    rw (c .answer-of .ensures, byte-0 .prefixed .ensures, added .add24 .ensures) (storage-back .before .perform .ensures)
+    let fetched = c .before .before .before .before in
+    let told = fetched .before .before .before .before in
+    rw (told .enum-told .given .1) (fetched .fetch .ensures)
+
+same-length-4 : tie.Need-same-length-4
+same-length-4 c = search needs
+
+same-length-5 : tie.Need-same-length-5
+same-length-5 c = search needs
+
+same-length-6 : tie.Need-same-length-6
+same-length-6 c = search needs
+
+returns-2 : tie.Need-returns-2
+returns-2 c =
+    let stored = c .before .before .before .before in
+    let told = stored .before .before .before .before in
+    rw (told .enum-told2 .given .1) (stored .store .ensures)
 
 pub access-spec : {M : Type 1} → statement M
 access-spec =
     tie.close
     (tie.spec
-    perform-requires
-    add24-requires
-    prefixed-requires
-    answer-of-requires
+    enum-told
+    fetch-requires
+    enum-told-2
+    store-requires
     same-length
     same-length-2
     same-length-3
-    returns)
+    returns
+    same-length-4
+    same-length-5
+    same-length-6
+    returns-2)

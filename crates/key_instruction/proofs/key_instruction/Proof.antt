@@ -22,9 +22,8 @@ returns c =
     let stopped = c .before in
     let asked = stopped .before in
     let judged = asked .before in
-    let block = judged .before in
     rw (c .answer-of .ensures)
-    (refused _ _ _ _ _ (block .before .decode .ensures) (judged .verdict .ensures) (asked .stops .ensures) (stopped .if1 .taken))
+    (refused _ _ _ _ _ (judged .before .decode .ensures) (judged .verdict .ensures) (asked .stops .ensures) (stopped .if1 .taken))
 
 prefixed-requires : tie.Need-prefixed-requires
 prefixed-requires c κs = search needs
@@ -38,12 +37,12 @@ unit-of-requires c κs = search needs
 perform-requires : tie.Need-perform-requires
 perform-requires c κs =
     let placed = c .before in
-    let clear = placed .before .before .before .before in
+    let block = placed .before .before .before .before in
+    let clear = block .before in
     let asked = clear .before in
     let judged = asked .before in
-    let block = judged .before in
     rw (placed .unit-of .ensures, block .prefixed .ensures)
-    (keys-inside _ _ _ _ _ (block .before .decode .ensures) (judged .verdict .ensures) (asked .stops .ensures) (clear .if1 .left))
+    (keys-inside _ _ _ _ _ (judged .before .decode .ensures) (judged .verdict .ensures) (asked .stops .ensures) (clear .if1 .left))
 
 same-length : tie.Need-same-length
 same-length c = search needs
@@ -52,24 +51,24 @@ returns-2 : tie.Need-returns-2
 returns-2 c =
     let done = c .before .before in
     let placed = done .before .before in
-    let clear = placed .before .before .before .before in
+    let block = placed .before .before .before .before in
+    let clear = block .before in
     let asked = clear .before in
     let judged = asked .before in
-    let block = judged .before in
     let (word, (keys, code)) = done .perform .ensures in
     rw (word, keys, code, placed .unit-of .ensures, block .prefixed .ensures)
-    (operated _ _ _ _ _ (block .before .decode .ensures) (judged .verdict .ensures) (asked .stops .ensures) (clear .if1 .left))
+    (operated _ _ _ _ _ (judged .before .decode .ensures) (judged .verdict .ensures) (asked .stops .ensures) (clear .if1 .left))
 
 pub key-instruction-spec : {M : Type 1} → statement M
 key-instruction-spec =
     tie.close
     (tie.spec
     decode-requires
-    prefixed-requires
     verdict-requires
     stops-requires
     answer-of-requires
     returns
+    prefixed-requires
     cast-unit-of
     unit-of-requires
     perform-requires

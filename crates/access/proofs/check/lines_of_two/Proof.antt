@@ -1,57 +1,55 @@
--- `lines_of_two` puts the two lines together as `linesOfTwo` does. Assumes nothing.
+-- `lines_of_two` gives the first of the three tests that holds. Each answer rewrites the tests that have been made, by what they came out as.
+-- Assumes nothing.
+use borrow.Author.Needs.{needs}
+use borrow.Author.Tests.{le-leb, lt-leb}
+use Rattle.machine.specs.Answers.{firstOf}
 use Rattle.access.specs.ByUnit.{linesOfTwo}
 use Rattle.access.proofs.check.lines_of_two.Statement.{statement}
 use Rattle.access.proofs.check.lines_of_two.Tie as tie
 
-outside-requires : tie.Need-outside-requires
-outside-requires c κs = tt
-
-outside-requires-2 : tie.Need-outside-requires-2
-outside-requires-2 c κs = tt
-
-two-tests-requires : tie.Need-two-tests-requires
-two-tests-requires c κs = tt
-
-forbidden-requires : tie.Need-forbidden-requires
-forbidden-requires c κs = tt
-
-forbidden-requires-2 : tie.Need-forbidden-requires-2
-forbidden-requires-2 c κs = tt
-
-two-tests-requires-2 : tie.Need-two-tests-requires-2
-two-tests-requires-2 c κs = tt
-
-first-of-requires : tie.Need-first-of-requires
-first-of-requires c κs = tt
+cast-if1 : tie.Need-cast-if1
+cast-if1 c = search needs
 
 returns : tie.Need-returns
-unfolding linesOfTwo
-returns c =
-    let line-4 = c .before in
-    let there-4 = line-4 .before in
-    let here-4 = there-4 .before in
-    let line-5 = here-4 .before in
-    let there-5 = line-5 .before in
-    let here-5 = there-5 .before in
-    rw (
-      c .first-of .ensures,
-      line-4 .two-tests2 .ensures,
-      there-4 .forbidden2 .ensures,
-      here-4 .forbidden .ensures,
-      line-5 .two-tests .ensures,
-      there-5 .outside2 .ensures,
-      here-5 .outside .ensures,
-    )
+unfolding linesOfTwo firstOf
+returns c = rw (le-leb _ _ (c .if1 .taken))
+
+forbidden-requires : tie.Need-forbidden-requires
+forbidden-requires c κs = search needs
+
+returns-2 : tie.Need-returns-2
+unfolding linesOfTwo firstOf
+returns-2 c =
+    let tested = c .before in
+    rw (lt-leb _ _ (tested .before .if1 .left), ← tested .forbidden .ensures, c .if2 .taken)
+
+forbidden-requires-2 : tie.Need-forbidden-requires-2
+forbidden-requires-2 c κs = search needs
+
+returns-3 : tie.Need-returns-3
+unfolding linesOfTwo firstOf
+returns-3 c =
+    let tested-there = c .before in
+    let passed = tested-there .before in
+    let tested = passed .before in
+    rw (lt-leb _ _ (tested .before .if1 .left), ← tested .forbidden .ensures, passed .if2 .left, ← tested-there .forbidden2 .ensures, c .if3 .taken)
+
+returns-4 : tie.Need-returns-4
+unfolding linesOfTwo firstOf
+returns-4 c =
+    let tested-there = c .before in
+    let passed = tested-there .before in
+    let tested = passed .before in
+    rw (lt-leb _ _ (tested .before .if1 .left), ← tested .forbidden .ensures, passed .if2 .left, ← tested-there .forbidden2 .ensures, c .if3 .left)
 
 pub lines-of-two-spec : {M : Type 1} → statement M
 lines-of-two-spec =
     tie.close
     (tie.spec
-    outside-requires
-    outside-requires-2
-    two-tests-requires
+    cast-if1
+    returns
     forbidden-requires
+    returns-2
     forbidden-requires-2
-    two-tests-requires-2
-    first-of-requires
-    returns)
+    returns-3
+    returns-4)

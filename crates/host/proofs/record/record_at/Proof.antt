@@ -1,4 +1,4 @@
--- `record_at` takes the eight bytes apart as the boundary says. Assumes nothing.
+-- `record_at` takes the eight bytes apart as the boundary says; its reserved bits being zero, its PSW key is the first byte. Assumes nothing.
 use borrow.Author.Needs.{needs}
 use Rattle.host.proofs.record.record_at.Statement.{statement}
 use Rattle.host.proofs.record.record_at.Tie as tie
@@ -36,26 +36,20 @@ shared-slice-read-word-4 c = search needs
 word-requires : tie.Need-word-requires
 word-requires c κs = search needs
 
-shared-slice-read-key-or : tie.Need-shared-slice-read-key-or
-shared-slice-read-key-or c = search needs
+shared-slice-read-t7 : tie.Need-shared-slice-read-t7
+shared-slice-read-t7 c = search needs
 
-add-key-or : tie.Need-add-key-or
-add-key-or c = search needs
+add-t5 : tie.Need-add-t5
+add-t5 c = search needs
 
-shared-slice-read-key-or-2 : tie.Need-shared-slice-read-key-or-2
-shared-slice-read-key-or-2 c = search needs
-
-key-or-requires : tie.Need-key-or-requires
-key-or-requires c κs = search needs
-
-add-t16 : tie.Need-add-t16
-add-t16 c = search needs
-
-shared-slice-read-t27 : tie.Need-shared-slice-read-t27
-shared-slice-read-t27 c = search needs
+shared-slice-read-t26 : tie.Need-shared-slice-read-t26
+shared-slice-read-t26 c = search needs
 
 returns : tie.Need-returns
-returns c = rw (c .before .key-or .ensures, c .before .before .before .before .word .ensures)
+returns c =
+    let found = c .before .before in
+    let start = found .before .before .before .before .before .before .before in
+    rw (start .pre .1, found .word .ensures)
 
 pub record-at-spec : {M : Type 1} → statement M
 record-at-spec =
@@ -72,10 +66,7 @@ record-at-spec =
     add-word-4
     shared-slice-read-word-4
     word-requires
-    shared-slice-read-key-or
-    add-key-or
-    shared-slice-read-key-or-2
-    key-or-requires
-    add-t16
-    shared-slice-read-t27
+    shared-slice-read-t7
+    add-t5
+    shared-slice-read-t26
     returns)

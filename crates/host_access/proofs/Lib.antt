@@ -1,0 +1,2 @@
+-- The laws of the short way in.
+pub mod Accesses

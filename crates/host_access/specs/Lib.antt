@@ -1,0 +1,2 @@
+-- What the short way in means.
+pub mod ShortWay

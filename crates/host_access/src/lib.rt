@@ -1,0 +1,104 @@
+// The short way in for fetch and store, for programs in C, Rust and other languages: the processor's own record is one number, and the access
+// is as long as the bytes that are lent for it. Nothing is asked of the caller: whatever the numbers and bytes are, the call ends with an
+// answer of the table, and one that is not completed changes nothing. That it is a crate of its own, and so a static library of its own, is
+// for speed (docs/BENCHMARK.md).
+use access::fetch;
+use access::store;
+use host::record::settings_of;
+use host::request::pack;
+use machine::AccessKind;
+use machine::Answer;
+use machine::Processor;
+use machine::Reason;
+use machine::answers::answer_of;
+use machine::numbers::without_record;
+ghost use mathlib.Core.Path.{_≡_};
+ghost use mathlib.Core.Bool.{true};
+ghost use Rattle.host.specs.Boundary.{reservedZeroAt};
+ghost use Rattle.host_access.specs.ShortWay.{numberBytes, recordIn, accessOutcome, accessed, AccessCondition1};
+
+// The reserved bits of a record are zero.
+fn reserved_zero(record: u64) -> bool
+    ensures { λ r. ⌜ r ≡ reservedZeroAt (numberBytes «record») 0 ⌝ }
+{
+    (record / 256 % 256 < 8) & (record / 16777216 % 256 == 0)
+}
+
+// The record in a number, where its reserved bits are zero.
+fn record_in(record: u64) -> Processor
+    requires { ⌜ reservedZeroAt (numberBytes «record») 0 ≡ true ⌝ }
+    ensures { λ r. ⌜ r ≡ recordIn «record» ⌝ }
+{
+    let controls = record / 256 % 256;
+    Processor {
+        psw_key: (record % 256) as u8,
+        problem: controls / 1 % 2 == 1,
+        low_protection: controls / 2 % 2 == 1,
+        key_control: controls / 4 % 2 == 1,
+        prefix: (record / 4294967296) as u32,
+        code: (record / 65536 % 256) as u8,
+    }
+}
+
+// A fetch of as many bytes as `bytes` has. `settings`: 1 the 4K facility, 2 the extensions. `record`: the eight bytes of the processor's own
+// record, as one number, the least significant first. The result is that of `host::storage_unit_request`.
+#[no_mangle]
+pub extern "C" fn storage_unit_fetch(
+    settings: u32,
+    storage: &[u8],
+    keys: &mut [u8],
+    record: u64,
+    address: u32,
+    bytes: &mut [u8],
+) -> u64
+    ensures condition_1 { λ r. ⌜ AccessCondition1 r (now (storage .entry)) (now (keys .entry)) (now (bytes .entry))
+        (now (storage .entry)) (now (keys .exit)) (now (bytes .exit)) ⌝ }
+    ensures condition_2 { λ r. ⌜ accessOutcome r (now (storage .entry)) (now (keys .exit)) (now (bytes .exit))
+        ≡ accessed AccessKind.Fetch settings (now (storage .entry)) (now (keys .entry)) «record» address (now (bytes .entry)) ⌝ }
+{
+    if 4 <= settings {
+        return pack(Answer::Refused {
+            reason: Reason::Configuration,
+            place: 0,
+        });
+    }
+    let machine = settings_of(settings);
+    if !reserved_zero(record) {
+        let refused = without_record(machine, storage.len(), keys.len());
+        return pack(answer_of(refused, 0, 0));
+    }
+    let p = record_in(record);
+    let count = bytes.len();
+    pack(fetch(machine, storage, keys, p, address, count, bytes))
+}
+
+// A store of all of `bytes`, which are only read. The other parameters and the result are those of `storage_unit_fetch`.
+#[no_mangle]
+pub extern "C" fn storage_unit_store(
+    settings: u32,
+    storage: &mut [u8],
+    keys: &mut [u8],
+    record: u64,
+    address: u32,
+    bytes: &[u8],
+) -> u64
+    ensures condition_1 { λ r. ⌜ AccessCondition1 r (now (storage .entry)) (now (keys .entry)) (now (bytes .entry))
+        (now (storage .exit)) (now (keys .exit)) (now (bytes .entry)) ⌝ }
+    ensures condition_2 { λ r. ⌜ accessOutcome r (now (storage .exit)) (now (keys .exit)) (now (bytes .entry))
+        ≡ accessed AccessKind.Store settings (now (storage .entry)) (now (keys .entry)) «record» address (now (bytes .entry)) ⌝ }
+{
+    if 4 <= settings {
+        return pack(Answer::Refused {
+            reason: Reason::Configuration,
+            place: 0,
+        });
+    }
+    let machine = settings_of(settings);
+    if !reserved_zero(record) {
+        let refused = without_record(machine, storage.len(), keys.len());
+        return pack(answer_of(refused, 0, 0));
+    }
+    let p = record_in(record);
+    let count = bytes.len();
+    pack(store(machine, storage, keys, p, address, count, bytes))
+}

@@ -1,0 +1,2 @@
+-- What the table of permissions means.
+pub mod Entries

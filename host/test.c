@@ -204,6 +204,54 @@ static void numbers(void)
     CHECK(number(0, STORAGE_UNIT_FETCH, 0, 1) == STORAGE_UNIT_NUMBER_COMPLETED);
 }
 
+/* A fetch and a store of processor 0 by the short way in. */
+static uint64_t fetch(uint32_t settings, uint32_t address, uint8_t *bytes, size_t count)
+{
+    return storage_unit_fetch(settings, storage, sizeof storage, keys,
+                              storage_unit_key_count(settings, sizeof storage),
+                              storage_unit_record_value(records), address, bytes, count);
+}
+
+static uint64_t store(uint32_t settings, uint32_t address, const uint8_t *bytes, size_t count)
+{
+    return storage_unit_store(settings, storage, sizeof storage, keys,
+                              storage_unit_key_count(settings, sizeof storage),
+                              storage_unit_record_value(records), address, bytes, count);
+}
+
+/* What they leave, each number that they give, and a record as a value. */
+static void short_way(void)
+{
+    static const uint8_t text[4] = {0xC1, 0xC2, 0xC3, 0xC4};
+    uint64_t answer;
+
+    start();
+    storage_unit_put_record(records, 3, STORAGE_UNIT_LOW_PROTECTION, 2, 0x1000);
+    CHECK(storage_unit_record_value(records) == UINT64_C(0x0000100000020203));
+    keys[0] = 0x30;
+    keys[1] = 0x30;
+    answer = store(0, 0x1000 + 2046, text, sizeof text);
+    CHECK(storage_unit_number(answer) == STORAGE_UNIT_NUMBER_COMPLETED);
+    CHECK(storage_unit_rule(answer) == STORAGE_UNIT_RULE_PREFIX);
+    CHECK(memcmp(storage + 2046, text, sizeof text) == 0 && storage[2045] == 0 && storage[2050] == 0);
+    CHECK(keys[0] == 0x36 && keys[1] == 0x36);
+    answer = fetch(0, 0x1000 + 2047, buffer, 2);
+    CHECK(storage_unit_number(answer) == STORAGE_UNIT_NUMBER_COMPLETED);
+    CHECK(buffer[0] == 0xC2 && buffer[1] == 0xC3 && buffer[2] == 0xEE);
+
+    CHECK(storage_unit_number(fetch(4, 0, buffer, 1)) == STORAGE_UNIT_NUMBER_CONFIGURATION);
+    CHECK(storage_unit_number(fetch(0, 0, NULL, 0)) == STORAGE_UNIT_NUMBER_OPERAND);
+    CHECK(storage_unit_number(store(0, 0, buffer, sizeof buffer)) == STORAGE_UNIT_NUMBER_OPERAND);
+    CHECK(storage_unit_number(store(0, 0, text, 1)) == STORAGE_UNIT_NUMBER_PROTECTION);
+    answer = fetch(0, STORAGE_LENGTH - 1, buffer, 2);
+    CHECK(storage_unit_number(answer) == STORAGE_UNIT_NUMBER_ADDRESSING && storage_unit_place(answer) == 1);
+    keys[1] = 0x40;
+    answer = store(0, 0x1800 - 1, text, 2);
+    CHECK(storage_unit_number(answer) == STORAGE_UNIT_NUMBER_PROTECTION && storage_unit_place(answer) == 1);
+    records[STORAGE_UNIT_RESERVED_AT] = 1;
+    CHECK(storage_unit_number(fetch(0, 0x1000, buffer, 1)) == STORAGE_UNIT_NUMBER_RECORD);
+}
+
 int main(void)
 {
     answers();
@@ -213,5 +261,6 @@ int main(void)
     operations();
     rules();
     numbers();
+    short_way();
     return failures == 0 ? 0 : 1;
 }

@@ -4,10 +4,11 @@
  * The program owns the storage, its storage keys and the records of two processors, and lends them
  * to each call of storage_unit_request. A call takes one request of one processor (fetch, store,
  * one of the six key instructions, SET PREFIX or STORE PREFIX) and gives one answer.
+ * storage_unit_fetch and storage_unit_store do the same for a fetch and a store, in less time.
  *
- * The function is in the static library libhost.a, for x86-64 Linux, which needs memmove from the C
- * library and nothing else. What a call answers and leaves is defined in
- * crates/host/specs/Boundary.antt, and proved.
+ * The functions are in the static library libstorage_unit.a, for x86-64 Linux, which needs memmove
+ * from the C library and nothing else. What a call answers and leaves is defined in
+ * crates/host/specs/Boundary.antt and crates/host_access/specs/ShortWay.antt, and proved.
  *
  * "Bit 0" of a register is the leftmost of 32, as in the manual, GA22-7000. The constants below are
  * plain values, to be used with & and |.
@@ -159,8 +160,9 @@ extern "C" {
  * the condition code by RRB and RRBE, in the record of the processor that asked.
  *
  * The caller must see to this:
- * - Each pointer is valid for reads and writes of as many bytes as the length after it, whatever
- *   the operation. Where the length is 0, the pointer is not used and may be null.
+ * - Each pointer is valid for reads and, unless it is to const, writes of as many bytes as the
+ *   length after it, whatever the operation. Where the length is 0, the pointer is not used and
+ *   may be null.
  * - Storage, keys, records and buffer do not overlap. In particular, no buffer lies in the storage.
  * - Nothing else reads or writes these bytes during the call. The function keeps no state of its
  *   own, so threads that lend different bytes may call it at the same time; calls for two
@@ -173,6 +175,31 @@ uint64_t storage_unit_request(uint32_t settings,
                               uint32_t processor_number,
                               uint32_t operation, uint32_t first, uint32_t second,
                               uint8_t *buffer, size_t buffer_length);
+
+/*
+ * storage_unit_fetch and storage_unit_store: a fetch and a store by a shorter way in. They answer
+ * and leave what storage_unit_request does with STORAGE_UNIT_FETCH and STORAGE_UNIT_STORE.
+ *
+ * settings, storage, keys  As for storage_unit_request. A fetch only reads storage.
+ * record                   The processor's own record as a value, by storage_unit_record_value. An
+ *                          access never changes it. A wrong value, or a reserved bit that is on: 65.
+ * address                  The real address of the first byte.
+ * bytes                    A fetch writes them all, a store only reads them: the access is of as
+ *                          many bytes as their number, `count`. 0 or more than 256: 66.
+ *
+ * The result, what it changes and what the caller must see to are as for storage_unit_request.
+ */
+uint64_t storage_unit_fetch(uint32_t settings,
+                            const uint8_t *storage, size_t storage_length,
+                            uint8_t *keys, size_t keys_length,
+                            uint64_t record, uint32_t address,
+                            uint8_t *bytes, size_t count);
+
+uint64_t storage_unit_store(uint32_t settings,
+                            uint8_t *storage, size_t storage_length,
+                            uint8_t *keys, size_t keys_length,
+                            uint64_t record, uint32_t address,
+                            const uint8_t *bytes, size_t count);
 
 /* The number of an answer: one of STORAGE_UNIT_NUMBER_... */
 static inline uint32_t storage_unit_number(uint64_t answer)
@@ -245,6 +272,16 @@ static inline uint32_t storage_unit_prefix(const uint8_t *record)
     const uint8_t *prefix = record + STORAGE_UNIT_PREFIX_AT;
     return (uint32_t)prefix[0] | (uint32_t)prefix[1] << 8 | (uint32_t)prefix[2] << 16
            | (uint32_t)prefix[3] << 24;
+}
+
+/* A record as a value, for storage_unit_fetch and storage_unit_store. */
+static inline uint64_t storage_unit_record_value(const uint8_t *record)
+{
+    return (uint64_t)record[STORAGE_UNIT_PSW_KEY_AT]
+           | (uint64_t)record[STORAGE_UNIT_CONTROLS_AT] << 8
+           | (uint64_t)record[STORAGE_UNIT_CODE_AT] << 16
+           | (uint64_t)record[STORAGE_UNIT_RESERVED_AT] << 24
+           | (uint64_t)storage_unit_prefix(record) << 32;
 }
 
 /* Writing a field of a record. No value is tested here; a wrong one is answered with 65. */

@@ -1,13 +1,13 @@
 //! Links the static library of the proved unit.
 //!
-//! It is `target/staticlib/libhost.a` of the repository, or the file that the environment
+//! It is `target/staticlib/libstorage_unit.a` of the repository, or the file that the environment
 //! variable `STORAGE_UNIT_LIBRARY` names.
 
 use std::env;
 use std::path::PathBuf;
 
 const VARIABLE: &str = "STORAGE_UNIT_LIBRARY";
-const USUAL_PLACE: &str = "../../target/staticlib/libhost.a";
+const USUAL_PLACE: &str = "../../target/staticlib/libstorage_unit.a";
 
 fn main() {
     let package = PathBuf::from(
@@ -19,7 +19,7 @@ fn main() {
     println!("cargo::rerun-if-changed={}", library.display());
     if !library.is_file() {
         println!(
-            "cargo::error={} is missing; `rt staticlib host` writes it",
+            "cargo::error={} is missing; `host/library` writes it",
             library.display()
         );
         return;

@@ -57,13 +57,16 @@ enum Place {
     Outside,
 }
 
+/// A key instruction with its R1 and R2, or address.
+type Instruction = fn(u32, u32) -> KeyInstruction;
+
 /// A kind of request.
 #[derive(Clone, Copy)]
 enum Ask {
     /// An access with a length from the first number to the second.
     Access(AccessKind, u32, u32, Place),
     /// A key instruction with any R1 and any block.
-    Key(fn(u32, u32) -> KeyInstruction),
+    Key(Instruction),
     SetPrefix,
     StorePrefix,
 }
@@ -210,7 +213,7 @@ fn refusals(rows: &mut Vec<Row>) {
 }
 
 fn key_instructions(rows: &mut Vec<Row>) {
-    let instructions: [(&str, fn(u32, u32) -> KeyInstruction); 6] = [
+    let instructions: [(&str, Instruction); 6] = [
         ("ISK", |r1, r2| KeyInstruction::Isk { r1, r2 }),
         ("SSK", |r1, r2| KeyInstruction::Ssk { r1, r2 }),
         ("RRB", |_, address| KeyInstruction::Rrb { address }),

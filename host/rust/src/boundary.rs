@@ -350,6 +350,88 @@ pub unsafe fn call_raw(
     }
 }
 
+/// Carries out a fetch through a C function.
+///
+/// # Panics
+///
+/// If the function answers with a number or a rule that the documents do not have.
+///
+/// # Safety
+///
+/// `raw` must be a function as [`RawFetch`] describes it.
+#[inline]
+pub unsafe fn call_fetch(
+    raw: RawFetch,
+    settings: Settings,
+    storage: &[u8],
+    keys: &mut [u8],
+    own: &Processor,
+    address: u32,
+    bytes: &mut [u8],
+) -> Answer {
+    // SAFETY: every pointer comes with the length of the slice it was taken from; what is
+    // written is lent exclusively. The caller guarantees what the function does.
+    let packed = unsafe {
+        raw(
+            encode_settings(settings),
+            storage.as_ptr(),
+            storage.len(),
+            keys.as_mut_ptr(),
+            keys.len(),
+            record_value(own),
+            address,
+            bytes.as_mut_ptr(),
+            bytes.len(),
+        )
+    };
+    answer_given(packed)
+}
+
+/// Carries out a store through a C function.
+///
+/// # Panics
+///
+/// If the function answers with a number or a rule that the documents do not have.
+///
+/// # Safety
+///
+/// `raw` must be a function as [`RawStore`] describes it.
+#[inline]
+pub unsafe fn call_store(
+    raw: RawStore,
+    settings: Settings,
+    storage: &mut [u8],
+    keys: &mut [u8],
+    own: &Processor,
+    address: u32,
+    bytes: &[u8],
+) -> Answer {
+    // SAFETY: as for `call_fetch`.
+    let packed = unsafe {
+        raw(
+            encode_settings(settings),
+            storage.as_mut_ptr(),
+            storage.len(),
+            keys.as_mut_ptr(),
+            keys.len(),
+            record_value(own),
+            address,
+            bytes.as_ptr(),
+            bytes.len(),
+        )
+    };
+    answer_given(packed)
+}
+
+/// The answer from its packed form.
+#[inline]
+fn answer_given(packed: u64) -> Answer {
+    match decode_answer(packed) {
+        Some(answer) => answer,
+        None => panic!("the storage unit gave an unknown answer: {packed:#018x}"),
+    }
+}
+
 /// Carries out one request through a C function.
 ///
 /// # Panics
@@ -391,8 +473,5 @@ pub unsafe fn call(
     if records != sent {
         *processors = decode_processors(&records);
     }
-    match decode_answer(packed) {
-        Some(answer) => answer,
-        None => panic!("the storage unit gave an unknown answer: {packed:#018x}"),
-    }
+    answer_given(packed)
 }

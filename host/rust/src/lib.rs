@@ -13,12 +13,13 @@
 //!
 //! | Item | What it is |
 //! |---|---|
-//! | [`proved`] | the proved unit, called in the static library through its C function |
+//! | [`proved`] | the proved unit, called in the static library through its C functions |
 //! | [`reference`](mod@reference) | documents 01 and 02 written down byte by byte, for comparison |
 //! | [`plain`] | ordinary hand-written Rust, for comparison of speed |
 //!
 //! All three have a function `request` with the same parameters, and all three implement
-//! [`Unit`]. The function [`request`] of this crate is that of the proved unit.
+//! [`Unit`]. The functions [`request`], [`fetch`] and [`store`] of this crate are those of the
+//! proved unit; the last two do what [`request`] does with a fetch and a store, in less time.
 //!
 //! # Example
 //!
@@ -68,7 +69,7 @@ pub mod plain;
 pub mod proved;
 pub mod reference;
 
-pub use proved::request;
+pub use proved::{fetch, request, store};
 
 /// The settings of the machine, the same for both processors.
 #[derive(Clone, Copy, Debug, Default, PartialEq, Eq, Hash)]

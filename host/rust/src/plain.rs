@@ -182,10 +182,18 @@ fn prefixed(real: u32, prefix: u32) -> (usize, Rule) {
     (absolute as usize, rule)
 }
 
-/// The number of bits in the offset within a key unit of 2K and of 4K. What works on units
-/// is compiled for each, with the number as a constant.
+/// The number of bits in the offset within a key unit of 2K and of 4K.
 const TWO_K: u32 = 11;
 const FOUR_K: u32 = 12;
+
+#[inline(always)]
+fn unit_shift(settings: Settings) -> u32 {
+    if settings.four_k {
+        FOUR_K
+    } else {
+        TWO_K
+    }
+}
 
 /// Whether the length of the storage or of the keys is wrong.
 #[inline(always)]
@@ -474,21 +482,23 @@ fn prefix_instruction<P: Record>(
     }
 }
 
-/// [`request`] with key units of `1 << shift` bytes.
-#[inline(always)]
-fn request_in(
-    shift: u32,
-    extensions: bool,
+/// Carries out one request for one processor; the parameters are those of
+/// [`RequestFunction`].
+#[inline(never)]
+pub fn request(
+    settings: Settings,
     storage: &mut [u8],
     keys: &mut [u8],
-    own: Option<&mut Processor>,
+    processors: &mut [Processor; 2],
+    processor_number: u32,
     request: &Request,
     buffer: &mut [u8],
 ) -> Answer {
+    let shift = unit_shift(settings);
     if lengths_wrong(shift, storage.len(), keys.len()) {
         return Answer::refused(Number::Configuration, 0);
     }
-    let own = match own {
+    let own = match processors.get_mut(processor_number as usize) {
         Some(own) if !own.is_wrong(storage.len()) => own,
         _ => return Answer::refused(Number::Record, 0),
     };
@@ -502,7 +512,7 @@ fn request_in(
             let with = KeyArray {
                 keys,
                 length: storage.len(),
-                extensions,
+                extensions: settings.extensions,
             };
             key_instruction(shift, with, own, instruction)
         }
@@ -510,39 +520,17 @@ fn request_in(
     }
 }
 
-/// Carries out one request for one processor; the parameters are those of
-/// [`RequestFunction`].
-#[inline(never)]
-pub fn request(
-    settings: Settings,
-    storage: &mut [u8],
-    keys: &mut [u8],
-    processors: &mut [Processor; 2],
-    processor_number: u32,
-    request: &Request,
-    buffer: &mut [u8],
-) -> Answer {
-    let own = processors.get_mut(processor_number as usize);
-    request_in(if settings.four_k { FOUR_K } else { TWO_K },
-            settings.extensions,
-            storage,
-            keys,
-            own,
-            request,
-            buffer,
-        )
-}
-
-/// A fetch with key units of `1 << shift` bytes, for any lengths and any record.
+/// A fetch for any lengths and any record.
 #[inline(always)]
 fn fetch_in<P: Record>(
-    shift: u32,
+    settings: Settings,
     storage: &[u8],
     keys: &mut [u8],
     own: &P,
     address: u32,
     bytes: &mut [u8],
 ) -> P::Reply {
+    let shift = unit_shift(settings);
     if lengths_wrong(shift, storage.len(), keys.len()) {
         return P::Reply::refused(Number::Configuration, 0);
     }
@@ -552,16 +540,17 @@ fn fetch_in<P: Record>(
     fetch_from(shift, storage, keys, own, address, bytes)
 }
 
-/// A store with key units of `1 << shift` bytes, for any lengths and any record.
+/// A store for any lengths and any record.
 #[inline(always)]
 fn store_in<P: Record>(
-    shift: u32,
+    settings: Settings,
     storage: &mut [u8],
     keys: &mut [u8],
     own: &P,
     address: u32,
     bytes: &[u8],
 ) -> P::Reply {
+    let shift = unit_shift(settings);
     if lengths_wrong(shift, storage.len(), keys.len()) {
         return P::Reply::refused(Number::Configuration, 0);
     }
@@ -581,7 +570,7 @@ pub fn fetch(
     address: u32,
     bytes: &mut [u8],
 ) -> Answer {
-    fetch_in(if settings.four_k { FOUR_K } else { TWO_K }, storage, keys, own, address, bytes)
+    fetch_in(settings, storage, keys, own, address, bytes)
 }
 
 /// Stores the bytes of `bytes`, for the processor with this record.
@@ -594,7 +583,7 @@ pub fn store(
     address: u32,
     bytes: &[u8],
 ) -> Answer {
-    store_in(if settings.four_k { FOUR_K } else { TWO_K }, storage, keys, own, address, bytes)
+    store_in(settings, storage, keys, own, address, bytes)
 }
 
 /// The bytes of a processor's record, if there are two records and it is one of them.
@@ -612,11 +601,10 @@ fn record_of(
 /// A request as numbers: operation, first and second operand.
 type Numbers = (u32, u32, u32);
 
-/// [`storage_unit_request_plain`] with key units of `1 << shift` bytes.
+/// [`storage_unit_request_plain`] with slices.
 #[inline(always)]
 fn request_by_numbers(
-    shift: u32,
-    extensions: bool,
+    settings: Settings,
     storage: &mut [u8],
     keys: &mut [u8],
     records: &mut [u8],
@@ -624,6 +612,7 @@ fn request_by_numbers(
     (operation, first, second): Numbers,
     buffer: &mut [u8],
 ) -> u64 {
+    let shift = unit_shift(settings);
     let length = storage.len();
     if lengths_wrong(shift, length, keys.len()) {
         return u64::refused(Number::Configuration, 0);
@@ -642,7 +631,7 @@ fn request_by_numbers(
             let with = KeyArray {
                 keys,
                 length,
-                extensions,
+                extensions: settings.extensions,
             };
             return instruction_by_numbers(shift, with, record, (operation, first, second));
         }
@@ -651,7 +640,7 @@ fn request_by_numbers(
 }
 
 /// A key instruction or prefix instruction by its numbers, for lengths and a record that are
-/// right. Each has its own copy of what it calls, made for it alone.
+/// right. The compiler makes each a copy of what it calls.
 #[inline(always)]
 fn instruction_by_numbers(
     shift: u32,
@@ -718,10 +707,16 @@ pub unsafe extern "C" fn storage_unit_request_plain(
     let Some(settings) = boundary::decode_settings(settings) else {
         return u64::refused(Number::Configuration, 0);
     };
-    let (extensions, number) = (settings.extensions, processor_number);
     let numbers = (operation, first, second);
-    request_by_numbers(if settings.four_k { FOUR_K } else { TWO_K }, extensions, storage, keys, records, number, numbers, buffer,
-        )
+    request_by_numbers(
+        settings,
+        storage,
+        keys,
+        records,
+        processor_number,
+        numbers,
+        buffer,
+    )
 }
 
 /// The plain implementation behind a C function like `storage_unit_fetch`.
@@ -754,7 +749,7 @@ pub unsafe extern "C" fn storage_unit_fetch_plain(
     let Some(settings) = boundary::decode_settings(settings) else {
         return u64::refused(Number::Configuration, 0);
     };
-    fetch_in(if settings.four_k { FOUR_K } else { TWO_K }, storage, keys, &record, address, bytes)
+    fetch_in(settings, storage, keys, &record, address, bytes)
 }
 
 /// The plain implementation behind a C function like `storage_unit_store`.
@@ -787,7 +782,7 @@ pub unsafe extern "C" fn storage_unit_store_plain(
     let Some(settings) = boundary::decode_settings(settings) else {
         return u64::refused(Number::Configuration, 0);
     };
-    store_in(if settings.four_k { FOUR_K } else { TWO_K }, storage, keys, &record, address, bytes)
+    store_in(settings, storage, keys, &record, address, bytes)
 }
 
 /// The bytes that a caller in another language lends.

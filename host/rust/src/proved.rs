@@ -1,4 +1,5 @@
-//! The proved unit, called in the static library.
+//! The proved unit, called in the static library: by one function for every request, and by
+//! two for fetch and store.
 
 use crate::{boundary, Answer, Processor, Request, RequestFunction, Settings, Unit};
 
@@ -117,6 +118,81 @@ pub fn request(
             processor_number,
             request,
             buffer,
+        )
+    }
+}
+
+/// Fetches as many bytes as `bytes` has from real address `address`, for the processor with
+/// the record `own`: what [`request`] does with [`Request::fetch`], in less time.
+///
+/// ```
+/// use storage_unit::{fetch, Number, Processor, Settings};
+///
+/// let settings = Settings { four_k: false, extensions: true };
+/// let storage = vec![0x5A; 4096];
+/// let mut keys = vec![0; 2];
+/// let mut bytes = [0; 4];
+/// let answer = fetch(settings, &storage, &mut keys, &Processor::default(), 2046, &mut bytes);
+/// assert_eq!(answer.number, Number::Completed);
+/// assert_eq!(bytes, [0x5A; 4]);
+/// assert_eq!(keys, [0x04; 2]);
+/// ```
+#[inline]
+pub fn fetch(
+    settings: Settings,
+    storage: &[u8],
+    keys: &mut [u8],
+    own: &Processor,
+    address: u32,
+    bytes: &mut [u8],
+) -> Answer {
+    // SAFETY: the static library has the function with this meaning.
+    unsafe {
+        boundary::call_fetch(
+            storage_unit_fetch,
+            settings,
+            storage,
+            keys,
+            own,
+            address,
+            bytes,
+        )
+    }
+}
+
+/// Stores the bytes of `bytes` from real address `address` on, for the processor with the
+/// record `own`: what [`request`] does with [`Request::store`], in less time.
+///
+/// ```
+/// use storage_unit::{store, Number, Processor, Settings};
+///
+/// let settings = Settings { four_k: false, extensions: true };
+/// let mut storage = vec![0; 4096];
+/// let mut keys = vec![0; 2];
+/// let answer = store(settings, &mut storage, &mut keys, &Processor::default(), 2046, b"ABCD");
+/// assert_eq!(answer.number, Number::Completed);
+/// assert_eq!(&storage[2046..2050], b"ABCD");
+/// assert_eq!(keys, [0x06; 2]);
+/// ```
+#[inline]
+pub fn store(
+    settings: Settings,
+    storage: &mut [u8],
+    keys: &mut [u8],
+    own: &Processor,
+    address: u32,
+    bytes: &[u8],
+) -> Answer {
+    // SAFETY: the static library has the function with this meaning.
+    unsafe {
+        boundary::call_store(
+            storage_unit_store,
+            settings,
+            storage,
+            keys,
+            own,
+            address,
+            bytes,
         )
     }
 }

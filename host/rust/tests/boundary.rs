@@ -10,7 +10,9 @@ use storage_unit::{
     Answer, KeyInstruction, Number, PrefixInstruction, Processor, Request, Rule, Settings,
 };
 
-use support::{random_buffer, random_key, random_processor, random_request, Aim, Random};
+use support::{
+    random_buffer, random_key, random_processor, random_request, Aim, Random, ADDRESSES_24,
+};
 
 #[test]
 fn settings_have_two_bits() {
@@ -213,6 +215,47 @@ impl Bytes {
                 request,
                 &mut self.buffer,
             )
+        }
+    }
+
+    /// A fetch or store of as many bytes as the buffer has, by its own function.
+    fn access(
+        &mut self,
+        (fetch, store): (RawFetch, RawStore),
+        settings: u32,
+        record: u64,
+        operation: u32,
+        address: u32,
+    ) -> u64 {
+        let (storage, keys) = (&mut self.storage, &mut self.keys);
+        let (lengths, bytes) = ((storage.len(), keys.len()), &mut self.buffer);
+        let (storage, keys) = (storage.as_mut_ptr(), keys.as_mut_ptr());
+        // SAFETY: as above.
+        unsafe {
+            match operation {
+                FETCH => fetch(
+                    settings,
+                    storage,
+                    lengths.0,
+                    keys,
+                    lengths.1,
+                    record,
+                    address,
+                    bytes.as_mut_ptr(),
+                    bytes.len(),
+                ),
+                _ => store(
+                    settings,
+                    storage,
+                    lengths.0,
+                    keys,
+                    lengths.1,
+                    record,
+                    address,
+                    bytes.as_ptr(),
+                    bytes.len(),
+                ),
+            }
         }
     }
 }
@@ -526,6 +569,63 @@ fn any_numbers_and_bytes(raw: RawRequest) {
         assert_eq!(packed, expected_packed, "step {step}: {request:?}");
         assert!(actual == expected, "step {step}: {request:?}");
     }
+}
+
+/// The functions for fetch and store answer and leave what that for every request does, for
+/// any settings, record, address and number of bytes.
+fn short_way_as_request(request: RawRequest, fetch: RawFetch, store: RawStore) {
+    let random = &mut Random::new(2_026);
+    let length = 16_384;
+    for step in 0..200_000 {
+        let settings = random.below(5) as u32;
+        let four_k = settings & FOUR_K != 0;
+        let (key_shift, mut own) = (
+            if four_k { 12 } else { 11 },
+            random_processor(random, length),
+        );
+        let mut expected = Bytes {
+            storage: vec![step as u8; length],
+            keys: (0..length >> key_shift)
+                .map(|_| random_key(random))
+                .collect(),
+            records: Vec::new(),
+            buffer: vec![0; random.pick(&[0, 1, 2, 8, 16, 17, 100, 255, 256, 257, 300])],
+        };
+        random.fill(&mut expected.buffer);
+        own.psw_key = random.pick(&[0, own.psw_key]);
+        let mut record = record_value(&own);
+        if random.one_in(8) {
+            record ^= 1 << random.below(64);
+        }
+        expected.records = [record.to_le_bytes(), [0xEE; RECORD_LENGTH]].concat();
+        let reach = random.pick(&[4_096, length as u64, ADDRESSES_24.into(), 1 << 32]);
+        let address = random.below(reach) as u32;
+        let operation = random.pick(&[FETCH, STORE]);
+        let count = expected.buffer.len();
+
+        let mut actual = expected.clone();
+        let packed = actual.access((fetch, store), settings, record, operation, address);
+        let expected_packed =
+            expected.call(request, settings, 0, (operation, address, count as u32));
+        assert_eq!(packed, expected_packed, "step {step}");
+        assert!(actual == expected, "step {step}");
+    }
+}
+
+#[test]
+fn plain_short_way_as_request() {
+    use storage_unit::plain::*;
+    short_way_as_request(
+        storage_unit_request_plain,
+        storage_unit_fetch_plain,
+        storage_unit_store_plain,
+    );
+}
+
+#[test]
+fn proved_short_way_as_request() {
+    use storage_unit::proved::*;
+    short_way_as_request(storage_unit_request, storage_unit_fetch, storage_unit_store);
 }
 
 /// Makes one test for each named case and each C function.

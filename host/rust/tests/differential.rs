@@ -24,6 +24,7 @@ use storage_unit::{
     Rule, Settings, Unit,
 };
 
+use support::short_way::{PlainShortWay, ProvedShortWay};
 use support::*;
 
 const DEFAULT_REQUESTS: u64 = 1_000_000;
@@ -816,8 +817,18 @@ fn plain_behind_boundary_against_reference() {
 }
 
 #[test]
+fn plain_short_way_against_reference() {
+    run::<PlainShortWay>();
+}
+
+#[test]
 fn proved_against_reference() {
     run::<storage_unit::proved::Proved>();
+}
+
+#[test]
+fn proved_short_way_against_reference() {
+    run::<ProvedShortWay>();
 }
 
 /// The units that `units_named` gives are those whose keys a completed request

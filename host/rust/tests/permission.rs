@@ -40,18 +40,22 @@ fn line_for(access_key: u8, key: u8) -> &'static Line {
     SUMMARY.iter().find(applies).expect("a line of the summary")
 }
 
-/// The table as the source has it: a row for each access key with a word for fetch and one for
+/// The table as the source has it: a word for each access key for fetch, then one for each for
 /// store, and in a word a bit for each value of the five leading key bits.
 fn printed() -> String {
+    let permitted: [fn(&Line) -> bool; 2] =
+        [|line| line.fetch_permitted, |line| line.store_permitted];
     let mut table = String::new();
-    for access_key in 0..16 {
-        let (mut fetch, mut store) = (0_u32, 0_u32);
-        for leading_bits in 0..32 {
-            let line = line_for(access_key, leading_bits << 3);
-            fetch = fetch << 1 | u32::from(line.fetch_permitted);
-            store = store << 1 | u32::from(line.store_permitted);
+    for permitted in permitted {
+        table += "    [\n";
+        for access_key in 0..16 {
+            let word = (0..32).fold(0_u32, |word, leading_bits| {
+                let line = line_for(access_key, leading_bits << 3);
+                word << 1 | u32::from(permitted(line))
+            });
+            table += &format!("        0x{word:08X},\n");
         }
-        table += &format!("    [0x{fetch:08X}, 0x{store:08X}],\n");
+        table += "    ],\n";
     }
     table
 }
@@ -59,11 +63,11 @@ fn printed() -> String {
 #[test]
 fn table_in_the_source() {
     let source = include_str!("../../../crates/storage_key/src/lib.rt");
-    let begin = "const PERMISSIONS: [[u32; 2]; 16] = [\n";
+    let begin = "const PERMISSIONS: [[u32; 16]; 2] = [\n";
     let (_, after) = source.split_once(begin).expect("the table");
-    let (table, _) = after.split_once("];\n").expect("the end of the table");
+    let (table, _) = after.split_once("\n];\n").expect("the end of the table");
     print!("{}", printed());
-    assert_eq!(table, printed());
+    assert_eq!(format!("{table}\n"), printed());
 }
 
 /// Every access key with every storage key: a fetch and a store complete where the summary

@@ -131,6 +131,8 @@ macro_rules! for_each_unit {
             @module plain_behind_boundary,
             storage_unit::plain::PlainBehindBoundary: $($case)*
         );
+        for_each_unit!(@module plain_short_way, $crate::support::short_way::PlainShortWay: $($case)*);
         for_each_unit!(@module proved, storage_unit::proved::Proved: $($case)*);
+        for_each_unit!(@module proved_short_way, $crate::support::short_way::ProvedShortWay: $($case)*);
     };
 }

@@ -3,6 +3,7 @@
 #![allow(dead_code)]
 
 pub mod cases;
+pub mod short_way;
 
 use std::env;
 use std::str::FromStr;

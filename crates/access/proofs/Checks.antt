@@ -20,7 +20,7 @@ use Rattle.machine.specs.declared.Request.the-variants.{Access}
 use Rattle.machine.specs.declared.Verdict.{Verdict}
 use Rattle.machine.specs.declared.AccessKind.{AccessKind}
 use Rattle.machine.specs.declared.AccessKind.the-variants.{Fetch, Store}
-use Rattle.machine.specs.declared.Verdict.the-variants.{Clear}
+use Rattle.machine.specs.declared.Verdict.the-variants.{Clear, Stop}
 use Rattle.machine.specs.Numbers.{unitOf, add24}
 use Rattle.machine.specs.Answers.{stops, line, firstOf, firstByte, firstLine}
 use Rattle.machine.specs.Prefixing.{byteAddress}
@@ -28,10 +28,11 @@ use Rattle.machine.specs.Protection.{lowProtected, forbidden}
 use Rattle.machine.specs.Table.{configuration, ownRecord, operandInvalid, addressing, protection, beforeProtection, verdict}
 use Rattle.machine.proofs.Verdicts.{neither, line-clear, first-clear, first-of-clear, first-none, first-assoc}
 use Rattle.machine.proofs.Verdicts.{skipped, first-of-stop, first-byte-before, left-out, scan-on}
-use Rattle.machine.proofs.AbsoluteAddress.{configured}
+use Rattle.machine.proofs.AbsoluteAddress.{configured, absolute-inside}
+use Rattle.machine.proofs.Units.{unit-inside}
 use Rattle.machine.proofs.BeforeProtection.{operands-passed}
 use Rattle.access.specs.declared.span.Span.{Span}
-use Rattle.access.specs.ByUnit.{toUnitEnd, spanAt, firstLines, stopAt, linesOfOne, linesOfTwo}
+use Rattle.access.specs.ByUnit.{toUnitEnd, spanAt, byteOutside, firstLines, stopAt, linesOfOne, linesOfTwo}
 use Rattle.access.proofs.Spans.{SameUnit, real-below, real-step, unit-same, to-unit-end-positive, first-span, second-span}
 
 -- a test that passes at every byte of a span where it passes at the first
@@ -84,7 +85,7 @@ module _ (s : Settings) (storageLength : ℕ) (keys : List ℕ) (p : Processor) 
 
   -- the tests of byte i by lines 5 and 4
   abbrev test-5 : ℕ → Bool
-  test-5 i = leb storageLength (add24 address i)
+  test-5 = byteOutside storageLength address
 
   abbrev test-4 : ℕ → Bool
   test-4 i = forbidden kind p (add24 address i) (getD keys (unitOf s (byteAddress p address i)) 0)
@@ -144,10 +145,21 @@ module _ (s : Settings) (storageLength : ℕ) (keys : List ℕ) (p : Processor) 
     first-inside : test-5 0 ≡ false
     first-inside = line-clear _ _ (both-clear .1)
 
+    machine-clear : (configuration s storageLength (length keys) ≡ Clear) × (ownRecord storageLength p ≡ Clear)
+    machine-clear = first-clear _ _ (first-clear _ _ (both-clear .0) .0)
+
     steady-5 : Steady s address test-5
-    steady-5 =
-        let lengths = first-clear _ _ (first-clear _ _ (both-clear .0) .0) .0 in
-        outside-steady s address storageLength (configured s storageLength (length keys) lengths .whole)
+    steady-5 = outside-steady s address storageLength (configured s storageLength (length keys) (machine-clear .0) .whole)
+
+    -- the key of a byte that line 5 lets pass is there, of the first byte as well
+    pub byte-keyed : (i : ℕ) → test-5 i ≡ false → unitOf s (byteAddress p address i) < length keys
+    byte-keyed i inside =
+        let known = configured s storageLength (length keys) (machine-clear .0) in
+        let below = absolute-inside s storageLength (length keys) p (machine-clear .0) (machine-clear .1) (add24 address i) (leb-false _ _ inside) in
+        rw (known .keyed) (unit-inside s storageLength (byteAddress p address i) (known .whole) below)
+
+    pub first-keyed : unitOf s (byteAddress p address 0) < length keys
+    first-keyed = byte-keyed 0 first-inside
 
     steady-4 : Steady s address test-4
     steady-4 = forbidden-steady s address keys p kind
@@ -170,15 +182,24 @@ module _ (s : Settings) (storageLength : ℕ) (keys : List ℕ) (p : Processor) 
         ) at others)
 
     -- and on one in two
-    pub table-of-two : {here there : Span} {v : Verdict} {k : ℕ} → k ≡ toUnitEnd s address → k < count
-        → here ≡ spanAt s keys p address 0 → there ≡ spanAt s keys p address k → v ≡ linesOfTwo storageLength p kind here k there → v ≡ table
-    unfolding linesOfTwo firstOf
-    table-of-two end more spanned-here spanned-there tested =
-        let beyond : toUnitEnd s address < count = rw end at more in
-        let short = operands .1 in
-        rw (tested, spanned-here, spanned-there, end)
-        (rw (
-          by-two s address Addressing test-5 steady-5 count beyond short,
-          by-two s address Protection test-4 steady-4 count beyond short,
-          first-inside,
-        ) at others)
+    module _ {k : ℕ} (end : k ≡ toUnitEnd s address) (more : k < count) where
+      in-two : firstOf (stopAt Addressing k (test-5 k)) (firstOf (stopAt Protection 0 (test-4 0)) (stopAt Protection k (test-4 k))) ≡ table
+      unfolding firstOf
+      in-two =
+          let beyond : toUnitEnd s address < count = rw end at more in
+          let short = operands .1 in
+          rw end
+          (rw (
+            by-two s address Addressing test-5 steady-5 count beyond short,
+            by-two s address Protection test-4 steady-4 count beyond short,
+            first-inside,
+          ) at others)
+
+      pub outside-second : test-5 k ≡ true → Stop Addressing k ≡ table
+      unfolding firstOf
+      outside-second outside = rw outside at in-two
+
+      pub table-of-two : {here there : Span} {v : Verdict} → test-5 k ≡ false → here ≡ spanAt s keys p address 0
+          → there ≡ spanAt s keys p address k → v ≡ linesOfTwo p kind here k there → v ≡ table
+      unfolding linesOfTwo firstOf
+      table-of-two inside spanned-here spanned-there tested = rw (tested, spanned-here, spanned-there) (rw inside at in-two)

@@ -2,7 +2,7 @@
 -- no bytes; one in two units is a second span after the first.
 -- Assumes nothing.
 use Prim.Native.Nat.{ℕ, _+_, _-_, _<_, _≤_}
-use mathlib.Core.Path.{_≡_, sym, ap, _∙_}
+use mathlib.Core.Path.{_≡_, refl, sym, _∙_}
 use mathlib.Core.Bool.{Bool, true, false}
 use mathlib.Core.List.{List}
 use native.Mathlib.Omega.{arith}
@@ -13,18 +13,21 @@ use Rattle.machine.specs.declared.Processor.{Processor}
 use Rattle.machine.specs.declared.AccessKind.{AccessKind}
 use Rattle.machine.specs.declared.Request.the-variants.{Access}
 use Rattle.machine.specs.declared.Answer.{Answer}
-use Rattle.machine.specs.declared.Answer.the-variants.{Completed}
+use Rattle.machine.specs.declared.Answer.the-variants.{Completed, Refused}
+use Rattle.machine.specs.declared.Reason.the-variants.{Addressing}
 use Rattle.machine.specs.declared.Verdict.{Verdict}
 use Rattle.machine.specs.declared.Verdict.the-variants.{Clear}
 use Rattle.machine.specs.Answers.{answerOf, stops}
+use Rattle.machine.specs.Numbers.{unitOf}
+use Rattle.machine.specs.Prefixing.{byteAddress}
 use Rattle.machine.specs.Step.{ruleGiven}
 use Rattle.machine.proofs.Verdicts.{stops-not}
 use Rattle.machine.proofs.Requests.{refused-request}
 use Rattle.access.specs.declared.span.Span.{Span}
-use Rattle.access.specs.ByUnit.{toUnitEnd, spanAt, firstLines, linesOfOne, linesOfTwo}
+use Rattle.access.specs.ByUnit.{toUnitEnd, spanAt, byteOutside, firstLines, linesOfOne, linesOfTwo}
 use Rattle.access.specs.Moving.{SpanFits}
 use Rattle.access.proofs.Spans.{OneUnit, to-unit-end-positive, first-span, second-span}
-use Rattle.access.proofs.Checks.{refused-first, table-of-one, table-of-two}
+use Rattle.access.proofs.Checks.{refused-first, byte-keyed, first-keyed, table-of-one, outside-second, table-of-two}
 use Rattle.access.proofs.Completed.{SpanCompleted, After, at-start, after-span, table, Performed, finished, known, span-fits}
 
 -- where the verdict found of the first lines stops, it is the answer
@@ -34,6 +37,13 @@ pub first-refused : (s : Settings) (storage keys : List ℕ) (p : Processor) (ki
 first-refused s storage keys p kind address count buffer found decided stop =
     refused-request s storage keys p (Access kind address count) buffer
     (refused-first s (length storage) keys p kind address count (length buffer) found (sym decided ∙ stop)) 0 0 (sym decided ∙ stop)
+
+-- where it does not stop, the key of the first byte is there
+pub first-byte-keyed : (s : Settings) (storage keys : List ℕ) (p : Processor) (kind : AccessKind) (address count : ℕ) (buffer : List ℕ)
+    {v : Verdict} {stopped : Bool} → v ≡ firstLines s (length storage) (length keys) p kind address count (length buffer) → stopped ≡ stops v
+    → stopped ≡ false → unitOf s (byteAddress p address 0) < length keys
+first-byte-keyed s storage keys p kind address count buffer {v} found decided clear =
+    first-keyed s (length storage) keys p kind address count (length buffer) (sym found ∙ stops-not v (sym decided ∙ clear))
 
 -- An access has begun: its first lines are clear, and its first unit is known and measured.
 pub record Begun (s : Settings) (storage keys : List ℕ) (p : Processor) (kind : AccessKind) (address count : ℕ) (buffer : List ℕ) (here : Span) (k : ℕ)
@@ -95,12 +105,21 @@ module _ {s : Settings} {storage keys : List ℕ} {p : Processor} {kind : Access
           finished s storage keys p kind address count buffer one-found (sym decided ∙ clear) first-rule
           (rw (zero-add count) at (after-span s storage keys p kind address buffer 0 count one-positive one-unit (begun .spanned) start completed))
 
-  -- in two, byte k being the first in the second
-  module _ (more : k < count) {there : Span} {v : Verdict} {stopped : Bool} (spanned-there : there ≡ spanAt s keys p address k)
-      (tested : v ≡ linesOfTwo (length storage) p kind here k there) (decided : stopped ≡ stops v) where
+  -- in two, byte k being the first in the second: it is outside storage
+  pub outside-refused : k < count → byteOutside (length storage) address k ≡ true → Left (Refused Addressing k) storage keys buffer
+  outside-refused more outside =
+      let found = outside-second s (length storage) keys p kind address count (length buffer) (begun .first) (begun .measured) more outside in
+      refused-request s storage keys p (Access kind address count) buffer found 0 0 refl
+
+  -- or its key is there
+  pub second-keyed : byteOutside (length storage) address k ≡ false → unitOf s (byteAddress p address k) < length keys
+  second-keyed = byte-keyed s (length storage) keys p kind address count (length buffer) (begun .first) k
+
+  module _ (more : k < count) (inside : byteOutside (length storage) address k ≡ false) {there : Span} {v : Verdict} {stopped : Bool}
+      (spanned-there : there ≡ spanAt s keys p address k) (tested : v ≡ linesOfTwo p kind here k there) (decided : stopped ≡ stops v) where
     two-found : v ≡ table s storage keys p kind address count buffer
     two-found =
-        table-of-two s (length storage) keys p kind address count (length buffer) (begun .first) (begun .measured) more (begun .spanned)
+        table-of-two s (length storage) keys p kind address count (length buffer) (begun .first) (begun .measured) more inside (begun .spanned)
         spanned-there tested
 
     pub two-refused : stopped ≡ true → Left (answerOf v 0 0) storage keys buffer

@@ -34,17 +34,21 @@ spanAt s keys p address i =
       key = getD keys (unitOf s (byteAddress p address i)) 0;
     }
 
+-- line 5 at byte i
+abbrev pub byteOutside : ℕ → ℕ → ℕ → Bool
+byteOutside storageLength address i = leb storageLength (add24 address i)
+
 -- lines 64, 65 and 66, and line 5 at the first byte
 unfoldable pub firstLines : Settings → ℕ → ℕ → Processor → AccessKind → ℕ → ℕ → ℕ → Verdict
 firstLines s storageLength keyLength p kind address count bufferLength =
     firstOf (firstOf (configuration s storageLength keyLength) (ownRecord storageLength p))
-    (firstOf (line Operand (operandInvalid (Access kind address count) bufferLength)) (line Addressing (leb storageLength (add24 address 0))))
+    (firstOf (line Operand (operandInvalid (Access kind address count) bufferLength)) (line Addressing (byteOutside storageLength address 0)))
 
 -- line 4 at the first byte of a span
 abbrev pub spanForbidden : Processor → AccessKind → Span → Bool
 spanForbidden p kind here = forbidden kind p (here .real) (here .key)
 
--- what is left of lines 5 and 4 for an access in one unit
+-- line 4 of an access in one unit
 unfoldable pub linesOfOne : Processor → AccessKind → Span → Verdict
 linesOfOne p kind here = line Protection (spanForbidden p kind here)
 
@@ -52,8 +56,6 @@ linesOfOne p kind here = line Protection (spanForbidden p kind here)
 abbrev pub stopAt : Reason → ℕ → Bool → Verdict
 stopAt r k test = cond test (Stop r k) Clear
 
--- and for an access in two units, byte k being the first in the second
-unfoldable pub linesOfTwo : ℕ → Processor → AccessKind → Span → ℕ → Span → Verdict
-linesOfTwo storageLength p kind here k there =
-    firstOf (stopAt Addressing k (leb storageLength (there .real)))
-    (firstOf (stopAt Protection 0 (spanForbidden p kind here)) (stopAt Protection k (spanForbidden p kind there)))
+-- and of an access in two units, byte k being the first in the second
+unfoldable pub linesOfTwo : Processor → AccessKind → Span → ℕ → Span → Verdict
+linesOfTwo p kind here k there = firstOf (stopAt Protection 0 (spanForbidden p kind here)) (stopAt Protection k (spanForbidden p kind there))

@@ -1,6 +1,6 @@
-// The table of answers for an access. Lines 64, 65 and 66 test the request as a whole, and line 5 its first byte; lines 1, 2, 19 and 6 are for
-// instructions only; then lines 5 and 4 are tested at the first byte in each of its one or two units. Each line returns early, for speed
-// (docs/BENCHMARK.md).
+// The table of answers for an access. Lines 64, 65 and 66 test the request as a whole; lines 1, 2, 19 and 6 are for instructions only; lines 5
+// and 4 are tested at the first byte in each of its one or two units, line 5 at the first byte together with the lines before. Each line
+// returns early, for speed (docs/BENCHMARK.md).
 use crate::span::Span;
 use machine::AccessKind;
 use machine::Processor;
@@ -19,13 +19,20 @@ ghost use mathlib.Core.Path.{_≡_};
 ghost use Rattle.machine.specs.Protection.{forbidden as isForbidden};
 ghost use Rattle.machine.specs.Table.{operandInvalid};
 ghost use Rattle.storage_key.specs.Entries.{permissions};
-ghost use Rattle.access.specs.ByUnit.{firstLines, linesOfOne, linesOfTwo};
+ghost use Rattle.access.specs.ByUnit.{byteOutside, firstLines, linesOfOne, linesOfTwo};
 
 // Line 66.
 fn operand_invalid(kind: AccessKind, address: u32, count: usize, buffer_length: usize) -> bool
     ensures { λ r. ⌜ r ≡ operandInvalid (Request.Access kind address count) «buffer_length» ⌝ }
 {
     (count == 0) | (256 < count) | (OPERAND_LIMIT <= address) | (buffer_length < count)
+}
+
+// Line 5 at byte i.
+pub(crate) fn outside(storage_length: usize, address: u32, i: u32) -> bool
+    ensures { λ r. ⌜ r ≡ byteOutside «storage_length» address i ⌝ }
+{
+    storage_length <= add24(address, i) as usize
 }
 
 // Lines 64, 65 and 66 for a processor with the record p, and line 5 at the first byte.
@@ -51,8 +58,7 @@ pub(crate) fn first_lines(
             place: 0,
         };
     }
-    let real = add24(address, 0);
-    refuse(Reason::Addressing, storage_length <= real as usize)
+    refuse(Reason::Addressing, outside(storage_length, address, 0))
 }
 
 // A byte with this real address and the key of its unit is forbidden to an access of this kind, whose access key has these permissions.
@@ -74,9 +80,8 @@ pub(crate) fn lines_of_one(p: Processor, kind: AccessKind, allowed: u32, here: S
     )
 }
 
-// Lines 5 and 4 of an access in two units, byte k being the first in the second unit.
+// Line 4 of an access in two units, byte k being the first in the second unit.
 pub(crate) fn lines_of_two(
-    storage_length: usize,
     p: Processor,
     kind: AccessKind,
     allowed: u32,
@@ -85,14 +90,8 @@ pub(crate) fn lines_of_two(
     there: Span,
 ) -> Verdict
     requires { ⌜ allowed ≡ permissions kind (p .«psw_key») ⌝ }
-    ensures { λ r. ⌜ r ≡ linesOfTwo «storage_length» p kind here k there ⌝ }
+    ensures { λ r. ⌜ r ≡ linesOfTwo p kind here k there ⌝ }
 {
-    if storage_length <= there.real as usize {
-        return Verdict::Stop {
-            reason: Reason::Addressing,
-            place: k,
-        };
-    }
     if forbidden(p, kind, allowed, here.real, here.key) {
         return Verdict::Stop {
             reason: Reason::Protection,

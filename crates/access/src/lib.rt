@@ -8,6 +8,8 @@ mod transfer;
 use crate::check::first_lines;
 use crate::check::lines_of_one;
 use crate::check::lines_of_two;
+use crate::check::outside;
+use crate::span::Span;
 use crate::span::bytes_to_unit_end;
 use crate::span::span_at;
 use crate::transfer::fetch_span;
@@ -15,6 +17,7 @@ use crate::transfer::store_span;
 use machine::AccessKind;
 use machine::Answer;
 use machine::Processor;
+use machine::Reason;
 use machine::Request;
 use machine::Settings;
 use machine::answers::answer_of;
@@ -22,6 +25,23 @@ use machine::answers::stops;
 use storage_key::permissions;
 ghost use mathlib.Core.Path.{_≡_};
 ghost use Rattle.machine.specs.Step.{outcome, step};
+
+// The answer of a completed access whose first span is this.
+fn completed_by(here: Span) -> Answer
+    ensures { λ r. ⌜ r ≡ Answer.Completed 0 (here .rule) ⌝ }
+{
+    Answer::Completed {
+        word: 0,
+        rule: here.rule,
+    }
+}
+
+// The answer of an access that is refused at a place.
+fn refused_at(reason: Reason, place: u32) -> Answer
+    ensures { λ r. ⌜ r ≡ Answer.Refused reason place ⌝ }
+{
+    Answer::Refused { reason, place }
+}
 
 // A fetch of `count` bytes from a real address on, by a processor with the record p. They are left in the buffer from its first byte on.
 pub fn fetch(
@@ -59,23 +79,20 @@ pub fn fetch(
             return answer_of(found, 0, 0);
         }
         fetch_span(storage, keys, here, buffer, 0, count);
-        return Answer::Completed {
-            word: 0,
-            rule: here.rule,
-        };
+        return completed_by(here);
+    }
+    if outside(storage.len(), address, k) {
+        return refused_at(Reason::Addressing, k);
     }
     let there = span_at(settings, &keys[..], p, address, k);
-    let found = lines_of_two(storage.len(), p, kind, allowed, here, k, there);
+    let found = lines_of_two(p, kind, allowed, here, k, there);
     if stops(found) {
         return answer_of(found, 0, 0);
     }
     let rest = count - k as usize;
     fetch_span(storage, keys, here, buffer, 0, k as usize);
     fetch_span(storage, keys, there, buffer, k as usize, rest);
-    Answer::Completed {
-        word: 0,
-        rule: here.rule,
-    }
+    completed_by(here)
 }
 
 // A store of the first `count` bytes of the buffer from a real address on, by a processor with the record p.
@@ -114,23 +131,20 @@ pub fn store(
             return answer_of(found, 0, 0);
         }
         store_span(storage, keys, here, buffer, 0, count);
-        return Answer::Completed {
-            word: 0,
-            rule: here.rule,
-        };
+        return completed_by(here);
+    }
+    if outside(storage.len(), address, k) {
+        return refused_at(Reason::Addressing, k);
     }
     let there = span_at(settings, &keys[..], p, address, k);
-    let found = lines_of_two(storage.len(), p, kind, allowed, here, k, there);
+    let found = lines_of_two(p, kind, allowed, here, k, there);
     if stops(found) {
         return answer_of(found, 0, 0);
     }
     let rest = count - k as usize;
     store_span(storage, keys, here, buffer, 0, k as usize);
     store_span(storage, keys, there, buffer, k as usize, rest);
-    Answer::Completed {
-        word: 0,
-        rule: here.rule,
-    }
+    completed_by(here)
 }
 
 // An access of either kind, with its length as in a request.

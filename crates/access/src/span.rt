@@ -4,8 +4,11 @@ use machine::Settings;
 use machine::numbers::unit_of;
 use prefixing::add24;
 use prefixing::prefixed;
+ghost use Prim.Native.Nat.{_<_};
 ghost use mathlib.Core.Path.{_≡_};
-ghost use lib.ListN.{getD};
+ghost use lib.ListN.{length};
+ghost use Rattle.machine.specs.Numbers.{unitOf};
+ghost use Rattle.machine.specs.Prefixing.{byteAddress};
 ghost use Rattle.access.specs.ByUnit.{toUnitEnd, spanAt};
 
 // The span of an access from one of its bytes on, in the unit of that byte.
@@ -22,28 +25,21 @@ pub(crate) struct Span {
     pub(crate) key: u8,
 }
 
-// The key of a unit, or 0 where the array has none.
-fn key_of_unit(keys: &[u8], unit: usize) -> u8
-    ensures { λ r. ⌜ r ≡ getD (now (keys .entry)) unit 0 ⌝ }
-{
-    if unit < keys.len() { keys[unit] } else { 0 }
-}
-
-// The span from byte i on.
+// The span from byte i on, which is in storage.
 pub(crate) fn span_at(settings: Settings, keys: &[u8], p: Processor, address: u32, i: u32) -> Span
+    requires { ⌜ unitOf settings (byteAddress p address i) < length (now keys) ⌝ }
     ensures { λ r. ⌜ r ≡ spanAt settings (now (keys .entry)) p address i ⌝ }
 {
     let real = add24(address, i);
     let first = prefixed(p.prefix, real);
     let absolute = first.absolute;
     let unit = unit_of(settings, absolute as usize);
-    let key = key_of_unit(keys, unit);
     Span {
         real,
         absolute,
         rule: first.rule,
         unit,
-        key,
+        key: keys[unit],
     }
 }
 

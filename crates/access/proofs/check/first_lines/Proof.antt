@@ -1,9 +1,9 @@
 -- `first_lines` gives the first of the lines that applies: each is returned where it stops, and passed over where it does not.
 -- Assumes nothing.
 use mathlib.Core.Path.{sym, _∙_}
-use borrow.Author.Needs.{needs}
 use Rattle.machine.proofs.Verdicts.{stopped-first, passed-first, line-stops, line-passes}
 use Rattle.access.specs.ByUnit.{firstLines}
+use borrow.Author.Needs.{needs}
 use Rattle.access.proofs.check.first_lines.Statement.{statement}
 use Rattle.access.proofs.check.first_lines.Tie as tie
 
@@ -31,11 +31,8 @@ returns-2 c =
     passed-first _ _ (judged .before .valid .ensures) (judged .stops .ensures) (passed .if1 .left)
     (line-stops _ _ (sym (tested .operand-invalid .ensures) ∙ c .if2 .taken))
 
-add24-requires : tie.Need-add24-requires
-add24-requires c κs = search needs
-
-cast-refuse : tie.Need-cast-refuse
-cast-refuse c = search needs
+outside-requires : tie.Need-outside-requires
+outside-requires c κs = search needs
 
 refuse-requires : tie.Need-refuse-requires
 refuse-requires c κs = search needs
@@ -43,13 +40,13 @@ refuse-requires c κs = search needs
 returns-3 : tie.Need-returns-3
 unfolding firstLines
 returns-3 c =
-    let added = c .before in
-    let operand-passed = added .before in
+    let first-byte = c .before in
+    let operand-passed = first-byte .before in
     let tested = operand-passed .before in
     let passed = tested .before in
     let judged = passed .before in
     passed-first _ _ (judged .before .valid .ensures) (judged .stops .ensures) (passed .if1 .left)
-    (line-passes _ (sym (tested .operand-invalid .ensures) ∙ operand-passed .if2 .left) (rw (added .add24 .ensures) at (c .refuse .ensures)))
+    (line-passes _ (sym (tested .operand-invalid .ensures) ∙ operand-passed .if2 .left) (rw (first-byte .outside .ensures) at (c .refuse .ensures)))
 
 pub first-lines-spec : {M : Type 1} → statement M
 first-lines-spec =
@@ -60,7 +57,6 @@ first-lines-spec =
     returns
     operand-invalid-requires
     returns-2
-    add24-requires
-    cast-refuse
+    outside-requires
     refuse-requires
     returns-3)

@@ -242,7 +242,9 @@ static void short_way(void)
     CHECK(storage_unit_number(fetch(4, 0, buffer, 1)) == STORAGE_UNIT_NUMBER_CONFIGURATION);
     CHECK(storage_unit_number(fetch(0, 0, NULL, 0)) == STORAGE_UNIT_NUMBER_OPERAND);
     CHECK(storage_unit_number(store(0, 0, buffer, sizeof buffer)) == STORAGE_UNIT_NUMBER_OPERAND);
-    CHECK(storage_unit_number(store(0, 0, text, 1)) == STORAGE_UNIT_NUMBER_PROTECTION);
+    keys[2] = 0x30;
+    CHECK(storage_unit_number(store(0, 511, text, 1)) == STORAGE_UNIT_NUMBER_PROTECTION);
+    CHECK(storage_unit_number(store(0, 512, text, 1)) == STORAGE_UNIT_NUMBER_COMPLETED);
     answer = fetch(0, STORAGE_LENGTH - 1, buffer, 2);
     CHECK(storage_unit_number(answer) == STORAGE_UNIT_NUMBER_ADDRESSING && storage_unit_place(answer) == 1);
     keys[1] = 0x40;

@@ -178,7 +178,8 @@ uint64_t storage_unit_request(uint32_t settings,
 
 /*
  * storage_unit_fetch and storage_unit_store: a fetch and a store by a shorter way in. They answer
- * and leave what storage_unit_request does with STORAGE_UNIT_FETCH and STORAGE_UNIT_STORE.
+ * and leave what storage_unit_request does with STORAGE_UNIT_FETCH or STORAGE_UNIT_STORE, `count` as
+ * the second operand and a buffer of `count` bytes.
  *
  * settings, storage, keys  As for storage_unit_request. A fetch only reads storage.
  * record                   The processor's own record as a value, by storage_unit_record_value. An

@@ -44,6 +44,7 @@ fn refused_at(reason: Reason, place: u32) -> Answer
 }
 
 // A fetch of `count` bytes from a real address on, by a processor with the record p. They are left in the buffer from its first byte on.
+// Byte k is the first in the second unit; line 5 is tested there before the unit's key is read.
 pub fn fetch(
     settings: Settings,
     storage: &[u8],

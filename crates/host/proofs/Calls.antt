@@ -23,6 +23,7 @@ use Rattle.machine.proofs.Conditions.{answer-in-table}
 use Rattle.machine.proofs.OwnRecord.{wrong-record}
 use Rattle.machine.proofs.Requests.{refused-changes-nothing, completed-cleared, controls-stay}
 use Rattle.host.specs.Boundary.{reservedZeroAt, recordAt, recordBytes, packed, Packs, callOutcome, recordsLeft, callServed, CallCondition1}
+use Rattle.host.specs.Serving.{Met}
 use Rattle.host.specs.Writing.{recordPut}
 use Rattle.host.proofs.Records.{Holds, valid-record-is-written, record-put, same-put}
 
@@ -52,9 +53,7 @@ module _ (bytes : List ℕ) (s : Settings) (storage keys : List ℕ) (at : ℕ) 
     (read : p ≡ recordAt bytes at) (stepped : outcome answer storage′ keys′ q buffer′ ≡ step s storage keys p r buffer)
     (byte : (i : ℕ) → getD bytes i 0 < 256) (put : bytes′ ≡ recordPut bytes at p q) (given : Packs result answer) where
   abbrev CallMet : Type 0
-  CallMet =
-      CallCondition1 result storage keys bytes buffer storage′ keys′ bytes′ buffer′
-      × (callOutcome result storage′ keys′ bytes′ buffer′ ≡ callServed bytes at (step s storage keys (recordAt bytes at) r buffer))
+  CallMet = Met s r at result storage keys bytes buffer storage′ keys′ bytes′ buffer′
 
   number-same : numberOf answer ≡ step s storage keys p r buffer .answer .number
   number-same = ap (λ o. o .answer .number) stepped
@@ -111,13 +110,11 @@ module _ (bytes : List ℕ) (s : Settings) (storage keys : List ℕ) (at : ℕ) 
       go (no d) = refused-call d
 
 -- both conditions of a call whose record has a reserved bit on: it is refused as one that has no record
-pub reserved-call : (bytes : List ℕ) (s : Settings) (storage keys : List ℕ) (at : ℕ) (r : Request) (buffer : List ℕ) {answer : Answer} {result : ℕ}
-    → reservedZeroAt bytes at ≡ false → answer ≡ answerOf (withoutRecord s (length storage) (length keys)) 0 0
-    → ((i : ℕ) → getD bytes i 0 < 256) → Packs result answer
-    → CallCondition1 result storage keys bytes buffer storage keys bytes buffer
-    × (callOutcome result storage keys bytes buffer ≡ callServed bytes at (step s storage keys (recordAt bytes at) r buffer))
-reserved-call bytes s storage keys at r buffer {answer} on refused byte given =
+pub reserved-call : (bytes : List ℕ) (s : Settings) (storage keys : List ℕ) (at : ℕ) (r : Request) (buffer : List ℕ) {result : ℕ}
+    → reservedZeroAt bytes at ≡ false → ((i : ℕ) → getD bytes i 0 < 256)
+    → Packs result (answerOf (withoutRecord s (length storage) (length keys)) 0 0) → Met s r at result storage keys bytes buffer storage keys bytes buffer
+reserved-call bytes s storage keys at r buffer on byte given =
     let p = recordAt bytes at in
-    let stepped : outcome answer storage keys p buffer ≡ step s storage keys p r buffer =
-    rw refused (wrong-record s storage keys p r buffer (reserved-wrong bytes at (length storage) on)) in
-    served-call bytes s storage keys at r buffer answer refl stepped byte (sym (same-put bytes at p refl)) given
+    let stepped = wrong-record s storage keys p r buffer (reserved-wrong bytes at (length storage) on) in
+    served-call bytes s storage keys at r buffer (answerOf (withoutRecord s (length storage) (length keys)) 0 0) refl stepped byte
+    (sym (same-put bytes at p refl)) given

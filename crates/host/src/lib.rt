@@ -9,9 +9,13 @@ use crate::record::reserved_zero;
 use crate::record::settings_of;
 use crate::request::pack;
 use crate::request::request_of;
-use access::access;
+use access::fetch;
+use access::store;
 use key_instruction::key_instruction;
+use machine::AccessKind;
 use machine::Answer;
+use machine::KeyInstruction;
+use machine::PrefixInstruction;
 use machine::Reason;
 use machine::Request;
 use machine::Settings;
@@ -19,13 +23,98 @@ use machine::answers::answer_of;
 use machine::numbers::without_record;
 use storage_unit::prefix::prefix_instruction;
 ghost use mathlib.Core.Path.{_≡_};
-ghost use Prim.Native.Nat.{_*_, _<_};
+ghost use Prim.Native.Nat.{_*_, _<_, _≤_};
 ghost use lib.ListN.{length};
-ghost use Rattle.machine.specs.Step.{step};
-ghost use Rattle.host.specs.Boundary.{recordAt, requestOf, callOutcome, callServed, called, CallCondition1};
+ghost use Rattle.machine.specs.Answers.{answerOf};
+ghost use Rattle.machine.specs.Pair.{withoutRecord};
+ghost use Rattle.host.specs.Boundary.{requestOf, Packs, callOutcome, called, CallCondition1};
+ghost use Rattle.host.specs.Serving.{Met, MetByInstruction};
 
-// A request of processor 0 or 1 over the sixteen bytes of the records. What an instruction changes of its own processor's record is written
-// back. That requests are told apart here, and not by `storage_unit::serve`, is for speed (docs/BENCHMARK.md).
+// The answer where there is no record, or one with a reserved bit on.
+pub fn refused(settings: Settings, storage_length: usize, key_length: usize) -> u64
+    ensures { λ r. ⌜ Packs r (answerOf (withoutRecord settings «storage_length» «key_length») 0 0) ⌝ }
+{
+    pack(answer_of(without_record(settings, storage_length, key_length), 0, 0))
+}
+
+// An access of the processor whose record stands from `at` on.
+fn access_bytes(
+    settings: Settings,
+    storage: &mut [u8],
+    keys: &mut [u8],
+    records: &[u8],
+    at: usize,
+    kind: AccessKind,
+    address: u32,
+    count: u32,
+    buffer: &mut [u8],
+) -> u64
+    requires { ⌜ (length (now records) ≡ 16) × (at ≤ 8) ⌝ }
+    ensures { λ r. ⌜ Met settings (Request.Access kind address count) at r
+        (now (storage .entry)) (now (keys .entry)) (now (records .entry)) (now (buffer .entry))
+        (now (storage .exit)) (now (keys .exit)) (now (records .entry)) (now (buffer .exit)) ⌝ }
+{
+    if !reserved_zero(records, at) {
+        return refused(settings, storage.len(), keys.len());
+    }
+    let p = record_at(records, at);
+    let n = count as usize;
+    match kind {
+        AccessKind::Fetch => pack(fetch(settings, &storage[..], keys, p, address, n, buffer)),
+        AccessKind::Store => pack(store(settings, storage, keys, p, address, n, &buffer[..])),
+    }
+}
+
+// A key instruction of the processor whose record stands from `at` on, whatever the buffer. What it changes of the record is written back.
+fn key_bytes(
+    settings: Settings,
+    storage: &[u8],
+    keys: &mut [u8],
+    records: &mut [u8],
+    at: usize,
+    instruction: KeyInstruction,
+) -> u64
+    requires { ⌜ (length (now records) ≡ 16) × (at ≤ 8) ⌝ }
+    ensures { λ r. ⌜ MetByInstruction settings (Request.Key instruction) at r (now (storage .entry)) (now (keys .entry)) (now (records .entry))
+        (now (storage .entry)) (now (keys .exit)) (now (records .exit)) ⌝ }
+{
+    if !reserved_zero(&records[..], at) {
+        return refused(settings, storage.len(), keys.len());
+    }
+    let p = record_at(&records[..], at);
+    let served = key_instruction(settings, storage, keys, p, instruction);
+    let answer = served.answer;
+    let processor = served.processor;
+    put_record(records, at, p, processor);
+    pack(answer)
+}
+
+// A prefix instruction of the processor whose record stands from `at` on, whatever the buffer. What it changes of the record is written back.
+fn prefix_bytes(
+    settings: Settings,
+    storage: &[u8],
+    keys: &[u8],
+    records: &mut [u8],
+    at: usize,
+    instruction: PrefixInstruction,
+) -> u64
+    requires { ⌜ (length (now records) ≡ 16) × (at ≤ 8) ⌝ }
+    ensures { λ r. ⌜ MetByInstruction settings (Request.Prefix instruction) at r (now (storage .entry)) (now (keys .entry)) (now (records .entry))
+        (now (storage .entry)) (now (keys .entry)) (now (records .exit)) ⌝ }
+{
+    if !reserved_zero(&records[..], at) {
+        return refused(settings, storage.len(), keys.len());
+    }
+    let p = record_at(&records[..], at);
+    let served = prefix_instruction(settings, storage, keys, p, instruction);
+    let answer = served.answer;
+    let processor = served.processor;
+    put_record(records, at, p, processor);
+    pack(answer)
+}
+
+// A request of processor 0 or 1 over the sixteen bytes of the records. That requests are told apart before a record is read, and not by
+// `storage_unit::serve`, is for speed (docs/BENCHMARK.md).
 fn serve_bytes(
     settings: Settings,
     storage: &mut [u8],
@@ -38,37 +127,32 @@ fn serve_bytes(
     buffer: &mut [u8],
 ) -> u64
     requires { ⌜ (length (now records) ≡ 16) × («processor_number» < 2) ⌝ }
-    ensures condition_1 { λ r. ⌜ CallCondition1 r (now (storage .entry)) (now (keys .entry)) (now (records .entry)) (now (buffer .entry))
+    ensures { λ r. ⌜ Met settings (requestOf operation first second) («processor_number» * 8) r
+        (now (storage .entry)) (now (keys .entry)) (now (records .entry)) (now (buffer .entry))
         (now (storage .exit)) (now (keys .exit)) (now (records .exit)) (now (buffer .exit)) ⌝ }
-    ensures condition_2 { λ r. ⌜ callOutcome r (now (storage .exit)) (now (keys .exit)) (now (records .exit)) (now (buffer .exit))
-        ≡ callServed (now (records .entry)) («processor_number» * 8) (step settings (now (storage .entry)) (now (keys .entry))
-        (recordAt (now (records .entry)) («processor_number» * 8)) (requestOf operation first second) (now (buffer .entry))) ⌝ }
 {
     let at = processor_number * 8;
-    if !reserved_zero(&records[..], at) {
-        let refused = without_record(settings, storage.len(), keys.len());
-        return pack(answer_of(refused, 0, 0));
-    }
-    let p = record_at(&records[..], at);
     match request_of(operation, first, second) {
         Request::Access {
             kind,
             address,
             count,
-        } => pack(access(settings, storage, keys, p, kind, address, count, buffer)),
+        } => access_bytes(
+            settings,
+            storage,
+            keys,
+            &records[..],
+            at,
+            kind,
+            address,
+            count,
+            buffer,
+        ),
         Request::Key(instruction) => {
-            let served = key_instruction(settings, &storage[..], keys, p, instruction);
-            let answer = served.answer;
-            let processor = served.processor;
-            put_record(records, at, p, processor);
-            pack(answer)
+            key_bytes(settings, &storage[..], keys, records, at, instruction)
         }
         Request::Prefix(instruction) => {
-            let served = prefix_instruction(settings, &storage[..], &keys[..], p, instruction);
-            let answer = served.answer;
-            let processor = served.processor;
-            put_record(records, at, p, processor);
-            pack(answer)
+            prefix_bytes(settings, &storage[..], &keys[..], records, at, instruction)
         }
     }
 }
@@ -115,7 +199,6 @@ pub extern "C" fn storage_unit_request(
             buffer,
         )
     } else {
-        let refused = without_record(machine, storage.len(), keys.len());
-        pack(answer_of(refused, 0, 0))
+        refused(machine, storage.len(), keys.len())
     }
 }

@@ -2,9 +2,8 @@
 -- on is refused as one that is not there. With the record of a processor of the pair it is the call of the long way in.
 -- Assumes nothing.
 use Prim.Native.Nat.{ℕ, _+_, _*_, _/_, _%_, _<_}
-use mathlib.Core.Path.{_≡_, refl, sym, ap, _∙_}
+use mathlib.Core.Path.{_≡_, refl, ap, _∙_}
 use mathlib.Core.Bool.{Bool, true, false, cond}
-use mathlib.Core.Logic.{_≢_}
 use mathlib.Core.List.{List}
 use native.Mathlib.Decide.{ℕ-discrete}
 use native.Mathlib.Omega.{arith}
@@ -21,7 +20,7 @@ use Rattle.machine.specs.declared.Processor.{Processor}
 use Rattle.machine.specs.declared.Answer.{Answer}
 use Rattle.machine.specs.declared.Request.the-variants.{Access}
 use Rattle.machine.specs.Lists.{written}
-use Rattle.machine.specs.Answers.{numberOf, values, answerOf}
+use Rattle.machine.specs.Answers.{values, answerOf}
 use Rattle.machine.specs.Step.{Outcome, outcome, completed, step}
 use Rattle.machine.specs.Pair.{withoutRecord}
 use Rattle.machine.proofs.Conditions.{answer-in-table}
@@ -76,14 +75,13 @@ module _ (s : Settings) (storage keys : List ℕ) (x : ℕ) (kind : AccessKind) 
     rw (given .0) (ap accessServed stepped),
   )
 
-  -- where its record has a reserved bit on: it is refused as one that has no record
-  pub reserved-access : reservedZeroAt (numberBytes x) 0 ≡ false → answer ≡ answerOf (withoutRecord s (length storage) (length keys)) 0 0
-      → Met storage keys bytes
-  reserved-access on refused =
-      let stepped : outcome answer storage keys (recordIn x) bytes ≡ after =
-      rw refused
-      (wrong-record s storage keys (recordIn x) (Access kind address (length bytes)) bytes (reserved-wrong (numberBytes x) 0 (length storage) on)) in
-      served-access stepped
+-- both conditions of a call whose record has a reserved bit on: it is refused as one that has no record
+pub reserved-access : (s : Settings) (storage keys : List ℕ) (x : ℕ) (kind : AccessKind) (address : ℕ) (bytes : List ℕ) {result : ℕ}
+    → reservedZeroAt (numberBytes x) 0 ≡ false → (given : Packs result (answerOf (withoutRecord s (length storage) (length keys)) 0 0))
+    → Met s storage keys x kind address bytes (answerOf (withoutRecord s (length storage) (length keys)) 0 0) given storage keys bytes
+reserved-access s storage keys x kind address bytes on given =
+    served-access s storage keys x kind address bytes (answerOf (withoutRecord s (length storage) (length keys)) 0 0) given
+    (wrong-record s storage keys (recordIn x) (Access kind address (length bytes)) bytes (reserved-wrong (numberBytes x) 0 (length storage) on))
 
 -- An access leaves the record of its processor; so it leaves the bytes of the records.
 module _ (s : Settings) (storage keys records : List ℕ) (at : ℕ) (kind : AccessKind) (address count : ℕ) (buffer : List ℕ)
@@ -146,5 +144,6 @@ short-way-is-call kind settings storage keys records n x address bytes sized one
         ≡ callOutcome (a .answer) (a .storage) (a .keys) records (a .bytes)
     go true =
         rw (asked kind address (length bytes), eq-eqb _ _ sized, lt-ltb n 2 one, same-own)
-        (ap (λ (left-records : List ℕ). callOutcome (packed (o .answer)) (o .storage) (o .keys) left-records (o .buffer)) (records-stay s storage keys records (n * 8) kind address (length bytes) bytes byte))
+        (ap (λ (left-records : List ℕ). callOutcome (packed (o .answer)) (o .storage) (o .keys) left-records (o .buffer))
+        (records-stay s storage keys records (n * 8) kind address (length bytes) bytes byte))
     go false = refl

@@ -1,17 +1,16 @@
 // The short way in for fetch and store, for programs in C, Rust and other languages: the processor's own record is one number, and the access
 // is as long as the bytes that are lent for it. Nothing is asked of the caller: whatever the numbers and bytes are, the call ends with an
-// answer of the table, and one that is not completed changes nothing. That it is a crate of its own, and so a static library of its own, is
-// for speed (docs/BENCHMARK.md).
+// answer of the table, and one that is not completed changes nothing. That it is a crate of its own, compiled apart
+// into an object of its own, is for speed (docs/BENCHMARK.md).
 use access::fetch;
 use access::store;
 use host::record::settings_of;
+use host::refused;
 use host::request::pack;
 use machine::AccessKind;
 use machine::Answer;
 use machine::Processor;
 use machine::Reason;
-use machine::answers::answer_of;
-use machine::numbers::without_record;
 ghost use mathlib.Core.Path.{_≡_};
 ghost use mathlib.Core.Bool.{true};
 ghost use Rattle.host.specs.Boundary.{reservedZeroAt};
@@ -64,8 +63,7 @@ pub extern "C" fn storage_unit_fetch(
     }
     let machine = settings_of(settings);
     if !reserved_zero(record) {
-        let refused = without_record(machine, storage.len(), keys.len());
-        return pack(answer_of(refused, 0, 0));
+        return refused(machine, storage.len(), keys.len());
     }
     let p = record_in(record);
     let count = bytes.len();
@@ -95,8 +93,7 @@ pub extern "C" fn storage_unit_store(
     }
     let machine = settings_of(settings);
     if !reserved_zero(record) {
-        let refused = without_record(machine, storage.len(), keys.len());
-        return pack(answer_of(refused, 0, 0));
+        return refused(machine, storage.len(), keys.len());
     }
     let p = record_in(record);
     let count = bytes.len();

@@ -2,7 +2,7 @@
 -- but the access key and the five leading key bits, by which the bits are numbered; and the rule is the manual's summary. That the words of a
 -- table are these permissions is one test, to be computed, of all 512 entries. Assumes nothing.
 use Prim.Native.Nat.{ℕ, zero, suc, _+_, _*_, _/_, _%_, _^_, _-_, _<_, _≤_}
-use mathlib.Core.Path.{_≡_, _∙_, refl, sym, ap}
+use mathlib.Core.Path.{_≡_, _∙_, refl, sym}
 use mathlib.Core.Logic.{_⊎_, ⊎-elim}
 use mathlib.Core.Bool.{Bool, true, false, cond, _&&_}
 use mathlib.Core.List.{List, []}
@@ -108,12 +108,12 @@ over-15 kind a over = of kind
         (λ i h. sym (permitted-as-summarized Store a (i * 8)) ∙ none-matches (i * 8) (omega arith))
 
 -- the words of a table: for fetch, then for store
-abbrev pub columnOf : AccessKind → ℕ
-columnOf Fetch = 0
-columnOf Store = 1
+abbrev pub rowOf : AccessKind → ℕ
+rowOf Fetch = 0
+rowOf Store = 1
 
-abbrev pub wordAt : List (List ℕ) → (column a : ℕ) → ℕ
-wordAt table column a = getD (getD table column []) a 0
+abbrev pub wordAt : List (List ℕ) → (row a : ℕ) → ℕ
+wordAt table row a = getD (getD table row []) a 0
 
 -- a test passes at n numbers, the first of which is `from`
 abbrev every : (ℕ → Bool) → (n from : ℕ) → Bool
@@ -129,14 +129,14 @@ every-at test (suc n) from e (suc i) h =
 
 -- the test of a table over all its entries, and the words that it has then
 abbrev right : List (List ℕ) → AccessKind → ℕ → Bool
-right table kind a = eqb (wordAt table (columnOf kind) a) (permissions kind a)
+right table kind a = eqb (wordAt table (rowOf kind) a) (permissions kind a)
 
 abbrev pub follows : List (List ℕ) → Bool
 follows table = every (λ a. right table Fetch a && right table Store a) 16 0
 
-pub word-follows : (table : List (List ℕ)) → follows table ≡ true → (kind : AccessKind) (a column : ℕ) → column ≡ columnOf kind → a < 16
-    → wordAt table column a ≡ permissions kind a
-word-follows table passed kind a column e h = rw e (eqb-true _ _ (of kind))
+pub word-follows : (table : List (List ℕ)) → follows table ≡ true → (kind : AccessKind) (a row : ℕ) → row ≡ rowOf kind → a < 16
+    → wordAt table row a ≡ permissions kind a
+word-follows table passed kind a row e h = rw e (eqb-true _ _ (of kind))
   where
     here : right table Fetch a && right table Store a ≡ true
     here =

@@ -99,8 +99,9 @@ const PERMISSIONS: [[u32; 16]; 2] = [
     ],
 ];
 
-// The permissions of an access key, a bit for each value of the five leading bits of a storage key, from left to right. An access key over 15
-// has no entries and matches no storage key: a fetch is permitted where the fetch-protection bit is zero, a store nowhere.
+// The permissions of an access key for a kind of access, a bit for each value of the five leading bits of a storage key, from left to right.
+// An access key over 15 has no entries and matches no storage key: a fetch is permitted where the fetch-protection bit is zero, a store
+// nowhere.
 pub fn permissions(kind: AccessKind, access_key: u8) -> u32
     ensures { λ r. ⌜ r ≡ permissionsOf kind «access_key» ⌝ }
 {
@@ -110,11 +111,12 @@ pub fn permissions(kind: AccessKind, access_key: u8) -> u32
             AccessKind::Store => 0x00000000,
         };
     }
-    let column = match kind {
+    let row = match kind {
         AccessKind::Fetch => 0,
         AccessKind::Store => 1,
     };
-    PERMISSIONS[column][access_key as usize]
+    let words = PERMISSIONS[row];
+    words[access_key as usize]
 }
 
 // What permissions say of a storage key.
@@ -124,7 +126,7 @@ pub fn permits(permissions: u32, key: u8) -> bool
     (permissions >> (31 - key / 8)) % 2 == 1
 }
 
-// The access key and the storage key permit an access.
+// The access key and the storage key permit an access. An access asks for the permissions once and for each of its units what they say.
 pub fn permitted(kind: AccessKind, access_key: u8, key: u8) -> bool
     ensures { λ r. ⌜ r ≡ isPermitted kind «access_key» key ⌝ }
 {

@@ -1,6 +1,5 @@
 -- `fetch` is the rules' step: refused by the first lines, else tested and completed in its one unit or its two. Assumes nothing.
 use mathlib.Core.Path.{refl, sym, _∙_}
-use native.Mathlib.Omega.{arith}
 use Rattle.machine.specs.declared.AccessKind.the-variants.{Fetch}
 use Rattle.access.proofs.InUnits.{first-refused, first-byte-keyed, Begun, has-begun, one-refused, one-fits, one-completed}
 use Rattle.access.proofs.InUnits.{outside-refused, second-keyed, two-refused, first-fits, second-fits, two-completed}
@@ -48,7 +47,8 @@ span-at-requires c κs =
     let judged = passed .before in
     let tested = judged .before in
     let a = tested .before .before .before .before .args in
-    first-byte-keyed (a .settings) (a .storage .now) (a .keys .now) (a .p) Fetch (a .address) (a .count) (a .buffer .now) (tested .first-lines .ensures) (judged .stops .ensures) (passed .if1 .left)
+    first-byte-keyed (a .settings) (a .storage .now) (a .keys .now) (a .p) Fetch (a .address) (a .count) (a .buffer .now) (tested .first-lines .ensures)
+    (judged .stops .ensures) (passed .if1 .left)
 
 bytes-to-unit-end-requires : tie.Need-bytes-to-unit-end-requires
 bytes-to-unit-end-requires c κs = search needs
@@ -57,9 +57,36 @@ cast-if2 : tie.Need-cast-if2
 cast-if2 c = search needs
 
 -- what is known once the first unit is measured
-begun : (c : lts.After-bytes-to-unit-end (first-lines-reads.Asked, first-lines-reads.Learnt, stops-reads.Asked, stops-reads.Learnt, answer-of-reads.Asked, answer-of-reads.Learnt, permissions-reads.Asked, permissions-reads.Learnt, span-at-reads.Asked, span-at-reads.Learnt, bytes-to-unit-end-reads.Asked, bytes-to-unit-end-reads.Learnt, lines-of-one-reads.Asked, lines-of-one-reads.Learnt, fetch-span-reads.Asked, fetch-span-reads.Learnt, completed-by-reads.Asked, completed-by-reads.Learnt, outside-reads.Asked, outside-reads.Learnt, refused-at-reads.Asked, refused-at-reads.Learnt, lines-of-two-reads.Asked, lines-of-two-reads.Learnt) reads.Pre reads.Post)
+begun : (c : lts.After-bytes-to-unit-end (
+  first-lines-reads.Asked,
+  first-lines-reads.Learnt,
+  stops-reads.Asked,
+  stops-reads.Learnt,
+  answer-of-reads.Asked,
+  answer-of-reads.Learnt,
+  permissions-reads.Asked,
+  permissions-reads.Learnt,
+  span-at-reads.Asked,
+  span-at-reads.Learnt,
+  bytes-to-unit-end-reads.Asked,
+  bytes-to-unit-end-reads.Learnt,
+  lines-of-one-reads.Asked,
+  lines-of-one-reads.Learnt,
+  fetch-span-reads.Asked,
+  fetch-span-reads.Learnt,
+  completed-by-reads.Asked,
+  completed-by-reads.Learnt,
+  outside-reads.Asked,
+  outside-reads.Learnt,
+  refused-at-reads.Asked,
+  refused-at-reads.Learnt,
+  lines-of-two-reads.Asked,
+  lines-of-two-reads.Learnt,
+)
+    reads.Pre reads.Post)
     → (let a = c .before .before .before .before .before .before .before .before .before .before .args in
-    Begun (a .settings) (a .storage .now) (a .keys .now) (a .p) Fetch (a .address) (a .count) (a .buffer .now) (c .before .span-at .result) (c .bytes-to-unit-end .result))
+    Begun (a .settings) (a .storage .now) (a .keys .now) (a .p) Fetch (a .address) (a .count) (a .buffer .now) (c .before .span-at .result)
+    (c .bytes-to-unit-end .result))
 begun c =
     let here = c .before in
     let passed = here .before .before .before in
@@ -86,7 +113,8 @@ returns-2 c =
     let tested = judged .before in
     let in-one = tested .before in
     let measured = in-one .before in
-    rw (c .answer-of2 .ensures) (one-refused (begun measured) (in-one .if2 .taken) (tested .lines-of-one .ensures) (judged .stops2 .ensures) (refused .if3 .taken))
+    rw (c .answer-of2 .ensures)
+    (one-refused (begun measured) (in-one .if2 .taken) (tested .lines-of-one .ensures) (judged .stops2 .ensures) (refused .if3 .taken))
 
 fetch-span-requires : tie.Need-fetch-span-requires
 fetch-span-requires c κs =
@@ -115,7 +143,8 @@ returns-3 c =
     let in-one = tested .before in
     let measured = in-one .before in
     let left = completed .fetch-span .ensures in
-    rw (c .completed-by .ensures) (one-completed (begun measured) (in-one .if2 .taken) (tested .lines-of-one .ensures) (judged .stops2 .ensures) (passed .if3 .left) (refl, left .1, left .0))
+    rw (c .completed-by .ensures)
+    (one-completed (begun measured) (in-one .if2 .taken) (tested .lines-of-one .ensures) (judged .stops2 .ensures) (passed .if3 .left) (refl, left .1, left .0))
 
 outside-requires : tie.Need-outside-requires
 outside-requires c κs = search needs

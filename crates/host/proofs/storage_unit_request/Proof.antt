@@ -1,8 +1,11 @@
 -- `storage_unit_request` is the call: by the settings, then by whether the request has a record. Assumes nothing.
 use mathlib.Core.Path.{refl}
+use lib.ListN.{length}
 use borrow.Author.Tests.{lt-ltb, le-ltb, ltb-true, eqb-true}
 use Rattle.machine.specs.declared.Answer.the-variants.{Refused}
 use Rattle.machine.specs.declared.Reason.the-variants.{Configuration}
+use Rattle.machine.specs.Answers.{answerOf}
+use Rattle.machine.specs.Pair.{withoutRecord}
 use Rattle.machine.proofs.Verdicts.{both}
 use Rattle.host.specs.Boundary.{calledWith, called}
 use Rattle.host.proofs.Calls.{nothing-changes}
@@ -26,14 +29,8 @@ serve-bytes-requires c κs =
     let (sixteen, one) = both _ _ (lent .before .before .if2 .taken) in
     (eqb-true _ _ sixteen, ltb-true _ _ one)
 
-without-record-requires : tie.Need-without-record-requires
-without-record-requires c κs = search needs
-
-answer-of-requires : tie.Need-answer-of-requires
-answer-of-requires c κs = search needs
-
-pack-requires-2 : tie.Need-pack-requires-2
-pack-requires-2 c κs = search needs
+refused-requires : tie.Need-refused-requires
+refused-requires c κs = search needs
 
 same-length : tie.Need-same-length
 same-length c = search needs
@@ -62,19 +59,12 @@ returns-2 c =
 returns-3 : tie.Need-returns-3
 unfolding called calledWith
 returns-3 c =
-    let answered = c .before in
-    let refused = answered .before in
-    let no-record = refused .before in
-    let settled = no-record .before in (
-      nothing-changes (answered .answer-of .result) (c .pack2 .ensures) refl refl refl refl,
-      rw (
-        c .pack2 .ensures .0,
-        answered .answer-of .ensures,
-        refused .without-record .ensures,
-        settled .settings-of .ensures,
-        lt-ltb _ _ (settled .before .if1 .left),
-        no-record .if2 .left,
-      ),
+    let no-record = c .before in
+    let settled = no-record .before in
+    let start = settled .before .before .before .before .before .before in
+    let verdict = withoutRecord (settled .settings-of .result) (length (start .args .storage .now)) (length (start .args .keys .now)) in (
+      nothing-changes (answerOf verdict 0 0) (c .refused .ensures) refl refl refl refl,
+      rw (c .refused .ensures .0, settled .settings-of .ensures, lt-ltb _ _ (settled .before .if1 .left), no-record .if2 .left),
     )
 
 pub storage-unit-request-spec : {M : Type 1} → statement M
@@ -85,9 +75,7 @@ storage-unit-request-spec =
     returns
     settings-of-requires
     serve-bytes-requires
-    without-record-requires
-    answer-of-requires
-    pack-requires-2
+    refused-requires
     same-length
     same-length-2
     same-length-3

@@ -24,28 +24,19 @@ settings-of-requires c κs = search needs
 reserved-zero-requires : tie.Need-reserved-zero-requires
 reserved-zero-requires c κs = search needs
 
-without-record-requires : tie.Need-without-record-requires
-without-record-requires c κs = search needs
-
-answer-of-requires : tie.Need-answer-of-requires
-answer-of-requires c κs = search needs
-
-pack-requires-2 : tie.Need-pack-requires-2
-pack-requires-2 c κs = search needs
+refused-requires : tie.Need-refused-requires
+refused-requires c κs = search needs
 
 returns-2 : tie.Need-returns-2
 unfolding accessed
 returns-2 c =
-    let answered = c .before in
-    let refused = answered .before in
-    let wrong = refused .before in
+    let wrong = c .before in
     let tested = wrong .before in
     let settled = tested .before in
     let on = sym (tested .reserved-zero .ensures) ∙ turned-true _ (wrong .if2 .taken) in
     let a = settled .before .before .before .before .before .args in
     rw (lt-ltb _ _ (settled .before .if1 .left), ← settled .settings-of .ensures)
-    (reserved-access _ (a .storage .now) (a .keys .now) (a .«record») Fetch (a .address) (a .bytes .now) (answered .answer-of .result) (c .pack2 .ensures) on
-    (rw (refused .without-record .ensures) at (answered .answer-of .ensures)))
+    (reserved-access _ (a .storage .now) (a .keys .now) (a .«record») Fetch (a .address) (a .bytes .now) on (c .refused .ensures))
 
 record-in-requires : tie.Need-record-in-requires
 record-in-requires c κs =
@@ -55,8 +46,8 @@ record-in-requires c κs =
 fetch-requires : tie.Need-fetch-requires
 fetch-requires c κs = search needs
 
-pack-requires-3 : tie.Need-pack-requires-3
-pack-requires-3 c κs = search needs
+pack-requires-2 : tie.Need-pack-requires-2
+pack-requires-2 c κs = search needs
 
 same-length : tie.Need-same-length
 same-length c = search needs
@@ -73,7 +64,7 @@ returns-3 c =
     let stepped = rw (read .record-in .ensures) at (performed .fetch .ensures) in
     let a = settled .before .before .before .before .before .args in
     rw (lt-ltb _ _ (settled .before .if1 .left), ← settled .settings-of .ensures)
-    (served-access _ (a .storage .now) (a .keys .now) (a .«record») Fetch (a .address) (a .bytes .now) (performed .fetch .result) (c .pack3 .ensures) stepped)
+    (served-access _ (a .storage .now) (a .keys .now) (a .«record») Fetch (a .address) (a .bytes .now) (performed .fetch .result) (c .pack2 .ensures) stepped)
 
 pub storage-unit-fetch-spec : {M : Type 1} → statement M
 storage-unit-fetch-spec =
@@ -83,13 +74,11 @@ storage-unit-fetch-spec =
     returns
     settings-of-requires
     reserved-zero-requires
-    without-record-requires
-    answer-of-requires
-    pack-requires-2
+    refused-requires
     returns-2
     record-in-requires
     fetch-requires
-    pack-requires-3
+    pack-requires-2
     same-length
     same-length-2
     returns-3)

@@ -10,7 +10,7 @@ use borrow.Author.Needs.{needs}
 use borrow.Table.Row.{get}
 use Rattle.machine.specs.Protection.{summary}
 use Rattle.storage_key.specs.Entries.{wordOf, permissions}
-use Rattle.storage_key.proofs.Entries.{over-15, columnOf, follows, word-follows}
+use Rattle.storage_key.proofs.Entries.{over-15, rowOf, follows, word-follows}
 use Rattle.storage_key.proofs.permissions.Statement.{statement}
 use Rattle.storage_key.proofs.permissions.Tie as tie
 use Rattle.storage_key.proofs.permissions.Reads as reads
@@ -40,34 +40,34 @@ enum-told-3 c = search needs
 enum-told-4 : tie.Need-enum-told-4
 enum-told-4 c = search needs
 
--- the column is that of the kind
-column : (c : lts.At-match2-came reads.Pre reads.Post) → c .match2 .column ≡ columnOf (c .before .before .args .kind)
-column c =
+-- the row is that of the kind
+row : (c : lts.At-match2-came reads.Pre reads.Post) → c .match2 .row ≡ rowOf (c .before .before .args .kind)
+row c =
     ⊎-elim
     (λ fetch. rw (fetch .1 .given .1) (fetch .2))
     (λ store. rw (store .1 .given .1) (store .2))
     (c .match2 .came)
 
-one-of-two : (c : lts.At-match2-came reads.Pre reads.Post) → c .match2 .column < 2
+one-of-two : (c : lts.At-match2-came reads.Pre reads.Post) → c .match2 .row < 2
 one-of-two c = ⊎-elim (λ fetch. omega arith) (λ store. omega arith) (c .match2 .came)
 
-mul-result : tie.Need-mul-result
-mul-result c =
+mul-words : tie.Need-mul-words
+mul-words c =
     let below = one-of-two (c .before) in
     record { fits = omega arith }
 
-mul-result-2 : tie.Need-mul-result-2
-mul-result-2 c = search needs
+array-copy-out-words : tie.Need-array-copy-out-words
+array-copy-out-words c = one-of-two (c .before)
 
-index-1-result : tie.Need-index-1-result
-index-1-result c = one-of-two (c .before)
+mul-result : tie.Need-mul-result
+mul-result c = search needs
 
-index-2-result : tie.Need-index-2-result
-index-2-result c = search needs
+array-read-result : tie.Need-array-read-result
+array-read-result c = search needs
 
--- the table of the source: what the array, local 7, holds where it is read
+-- the table of the source: what the array, local 8, holds where a row of it is read
 abbrev table : lts.After-row-known reads.Pre reads.Post → List (List ℕ)
-table c = get 7 (lts.T42 .locals) (lts.m42 reads.Pre reads.Post (c .before) (c .row-known .given))
+table c = get 8 (lts.T37 .locals) (lts.m37 reads.Pre reads.Post (c .before) (c .row-known .given))
 
 -- the test of all entries, computed
 table-follows : (c : lts.After-row-known reads.Pre reads.Post) → follows (table c) ≡ true
@@ -78,7 +78,7 @@ returns-3 : tie.Need-returns-3
 returns-3 c =
     let matched = c .before .before in
     let args = matched .before .before .args in
-    word-follows (table (c .before)) (table-follows (c .before)) (args .kind) (args .access-key) _ (column matched) (omega arith)
+    word-follows (table (c .before)) (table-follows (c .before)) (args .kind) (args .access-key) _ (row matched) (omega arith)
 
 pub permissions-spec : {M : Type 1} → statement M
 permissions-spec =
@@ -90,8 +90,8 @@ permissions-spec =
     returns-2
     enum-told-3
     enum-told-4
+    mul-words
+    array-copy-out-words
     mul-result
-    mul-result-2
-    index-1-result
-    index-2-result
+    array-read-result
     returns-3)

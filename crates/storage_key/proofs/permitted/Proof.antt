@@ -1,6 +1,4 @@
 -- `permitted` is the rules' test: the permissions of the access key say it of the storage key. Assumes nothing.
-use mathlib.Core.Path.{_∙_}
-use native.Mathlib.Omega.{arith}
 use borrow.Author.Needs.{needs}
 use Rattle.storage_key.proofs.Entries.{permits-permitted}
 use Rattle.storage_key.proofs.permitted.Statement.{statement}

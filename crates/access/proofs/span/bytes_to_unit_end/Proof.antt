@@ -1,5 +1,5 @@
 -- `bytes_to_unit_end` is the rest of the unit, whose size is that of the facility. Assumes nothing.
-use Prim.Native.Nat.{_%_, _<_}
+use Prim.Native.Nat.{_<_}
 use mathlib.Core.Path.{_≡_}
 use mathlib.Core.Logic.{⊎-elim}
 use native.Mathlib.Omega.{arith}

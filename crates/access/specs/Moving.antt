@@ -8,11 +8,12 @@ use Rattle.machine.specs.Numbers.{addressSpace}
 use Rattle.machine.specs.Protection.{recorded}
 use Rattle.access.specs.declared.span.Span.{Span}
 
--- n bytes are there from index `at` on in one list and from index `from` on in another; and from the real address on they do not wrap
+-- n bytes are there from index `at` on in one list and from index `from` on in another; they are no more than the larger unit has; and from the
+-- real address on they do not wrap
 pub record Fits (atLength at fromLength from real n : ℕ) : Type 0 where
   pub at-fits : at + n ≤ atLength
   pub from-fits : from + n ≤ fromLength
-  pub short : n ≤ 256
+  pub short : n ≤ 4096
   pub unwrapped : real + n ≤ addressSpace
 
 -- the target with n bytes of the source, from index `from` on, in the place of its own from index `at` on

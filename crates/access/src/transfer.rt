@@ -10,13 +10,16 @@ ghost use lib.ListN.{length};
 ghost use Rattle.machine.specs.Numbers.{addressSpace, add24 as sum24};
 ghost use Rattle.access.specs.Moving.{Fits, SpanFits, moved, keyRecorded};
 
+// The most bytes in a run: a run lies in one unit, and the larger unit has so many. An access has fewer.
+const RUN_MAXIMUM: usize = 4096;
+
 // How far byte j of a run that does not wrap is from the run's first byte: its real address is made by the 24-bit addition. The two tests never
 // hold. They stand beside the addition so that the compiler sees that the answer is j in every case, and no addition is left.
 fn offset(real: u32, j: usize) -> usize
-    requires { ⌜ (j < 256) × (real + j < addressSpace) ⌝ }
+    requires { ⌜ (j < 4096) × (real + j < addressSpace) ⌝ }
     ensures { λ r. ⌜ (r ≡ sum24 real j - real) × (r ≡ j) ⌝ }
 {
-    if 256 <= j {
+    if RUN_MAXIMUM <= j {
         return j;
     }
     if ADDRESS_SPACE <= real + j as u32 {
@@ -31,7 +34,7 @@ fn move_run(target: &mut [u8], at: usize, source: &[u8], from: usize, real: u32,
     requires { ⌜ Fits (length (now target)) at (length (now source)) from real n ⌝ }
     ensures { λ _. ⌜ now (target .exit) ≡ moved (now (target .entry)) at (now (source .entry)) from n ⌝ }
 {
-    let mut held = [0u8; 256];
+    let mut held = [0u8; RUN_MAXIMUM];
     let mut i = 0;
     while i < n {
         held[i] = source[from + offset(real, i)];

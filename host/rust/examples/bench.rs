@@ -24,7 +24,7 @@ use storage_unit::plain::{
 use storage_unit::proved::{storage_unit_fetch, storage_unit_request, storage_unit_store};
 use storage_unit::{AccessKind, KeyInstruction, PrefixInstruction, Processor, Request, Settings};
 
-/// Storage and keys stay in the cache next to the processor, which shows the cost of the code.
+/// Storage and keys stay in the second-level cache, which shows the cost of the code.
 const STORAGE_LENGTH: u32 = 524_288;
 const PREFIX: u32 = 65_536;
 const PSW_KEY: u8 = 8;
@@ -35,7 +35,7 @@ const PROTECTION: u16 = 4;
 const ADDRESSING: u16 = 5;
 const OPERAND: u16 = 66;
 
-/// A generator of random numbers (xorshift).
+/// A generator of random numbers (xorshift); its state is never 0.
 struct Random(u64);
 
 impl Random {
@@ -548,7 +548,9 @@ fn main() {
     let runs: usize = setting("STORAGE_UNIT_RUNS", 1);
     let rounds: usize = setting("STORAGE_UNIT_ROUNDS", 51);
     let count: usize = setting("STORAGE_UNIT_BATCH", 16_384);
-    let mut random = Random(setting("STORAGE_UNIT_SEED", 88_172_645_463_325_252));
+    let seed = setting("STORAGE_UNIT_SEED", 88_172_645_463_325_252);
+    assert!(seed != 0, "STORAGE_UNIT_SEED is not 0");
+    let mut random = Random(seed);
     let named: String = setting("STORAGE_UNIT_ROWS", String::new());
     let rows: Vec<Row> = rows()
         .into_iter()

@@ -1,5 +1,5 @@
-//! The C function of the storage unit: its type, and its parameters and result as numbers
-//! and bytes.
+//! The C functions of the storage unit: their types, and their parameters and results as
+//! numbers and bytes.
 //!
 //! The numbers and bytes are those of `host/include/storage_unit.h`, which says what each
 //! parameter is.
@@ -9,7 +9,7 @@ use crate::{
     Settings,
 };
 
-/// The type of the C function.
+/// The type of the C function for every request.
 ///
 /// It gives an answer whatever the numbers and the bytes are, and reads and writes only
 /// the bytes it is given.

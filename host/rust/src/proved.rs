@@ -4,7 +4,7 @@
 use crate::{boundary, Answer, Processor, Request, RequestFunction, Settings, Unit};
 
 extern "C" {
-    /// The C function of the static library.
+    /// The C function of the static library for every request.
     ///
     /// # Safety
     ///

@@ -572,7 +572,7 @@ fn any_numbers_and_bytes(raw: RawRequest) {
 }
 
 /// The functions for fetch and store answer and leave what that for every request does, for
-/// any settings, record, address and number of bytes.
+/// any settings, lengths, record, address and number of bytes.
 fn short_way_as_request(request: RawRequest, fetch: RawFetch, store: RawStore) {
     let random = &mut Random::new(2_026);
     let length = 16_384;
@@ -592,6 +592,11 @@ fn short_way_as_request(request: RawRequest, fetch: RawFetch, store: RawStore) {
             buffer: vec![0; random.pick(&[0, 1, 2, 8, 16, 17, 100, 255, 256, 257, 300])],
         };
         random.fill(&mut expected.buffer);
+        match random.below(16) {
+            0 => expected.storage.truncate(random.pick(&[0, 4_095, 8_192])),
+            1 => expected.keys.truncate(random.pick(&[0, 1, 3])),
+            _ => {}
+        }
         own.psw_key = random.pick(&[0, own.psw_key]);
         let mut record = record_value(&own);
         if random.one_in(8) {

@@ -27,8 +27,16 @@ ghost use Prim.Native.Nat.{_*_, _<_, _≤_};
 ghost use lib.ListN.{length};
 ghost use Rattle.machine.specs.Answers.{answerOf};
 ghost use Rattle.machine.specs.Pair.{withoutRecord};
-ghost use Rattle.host.specs.Boundary.{requestOf, Packs, callOutcome, called, CallCondition1};
+ghost use Rattle.host.specs.Boundary.{versionNumber, requestOf, Packs, callOutcome, called, CallCondition1};
 ghost use Rattle.host.specs.Serving.{Met, MetByInstruction};
+
+// The version of the boundary.
+#[no_mangle]
+pub extern "C" fn storage_unit_version() -> u32
+    ensures { λ r. ⌜ r ≡ versionNumber ⌝ }
+{
+    200
+}
 
 // The answer where there is no record, or one with a reserved bit on.
 pub fn refused(settings: Settings, storage_length: usize, key_length: usize) -> u64

@@ -4,6 +4,10 @@
 #include <stdio.h>
 #include <string.h>
 
+#if STORAGE_UNIT_VERSION < 200
+#error "the preprocessor does not read STORAGE_UNIT_VERSION as 200 or more"
+#endif
+
 #define STORAGE_LENGTH 8192u
 
 static int failures;
@@ -51,6 +55,62 @@ static uint32_t completed(uint32_t operation, uint32_t first, uint32_t second)
 static uint32_t number(uint32_t settings, uint32_t operation, uint32_t first, uint32_t second)
 {
     return storage_unit_number(request(settings, operation, first, second));
+}
+
+/* The version, as three numbers, as a text, and in the library. */
+static void version(void)
+{
+    char text[64];
+
+    snprintf(text, sizeof text, "%u.%u.%u", STORAGE_UNIT_VERSION_MAJOR, STORAGE_UNIT_VERSION_MINOR,
+             STORAGE_UNIT_VERSION_PATCH);
+    CHECK(strcmp(text, STORAGE_UNIT_VERSION_TEXT) == 0);
+    CHECK(storage_unit_version() == STORAGE_UNIT_VERSION);
+}
+
+/* Every number of an answer, in the order of the header. */
+static const uint32_t all_numbers[] = {
+    STORAGE_UNIT_NUMBER_CONFIGURATION,
+    STORAGE_UNIT_NUMBER_RECORD,
+    STORAGE_UNIT_NUMBER_OPERAND,
+    STORAGE_UNIT_NUMBER_OPERATION,
+    STORAGE_UNIT_NUMBER_PRIVILEGED,
+    STORAGE_UNIT_NUMBER_SPECIAL_OPERATION,
+    STORAGE_UNIT_NUMBER_SPECIFICATION,
+    STORAGE_UNIT_NUMBER_ADDRESSING,
+    STORAGE_UNIT_NUMBER_PROTECTION,
+    STORAGE_UNIT_NUMBER_COMPLETED,
+};
+
+#define NUMBERS (sizeof all_numbers / sizeof all_numbers[0])
+
+/* A text for each number, with its name at the start, and one text for all other numbers. */
+static void messages(void)
+{
+    static const char *const names[NUMBERS] = {
+        "configuration: ",
+        "record: ",
+        "operand: ",
+        "operation exception",
+        "privileged-operation exception",
+        "special-operation exception",
+        "specification exception",
+        "addressing exception",
+        "protection exception",
+        "completed",
+    };
+    const char *other = storage_unit_message(UINT32_MAX);
+    size_t i;
+    uint32_t n;
+
+    for (i = 0; i < NUMBERS; i++) {
+        CHECK(strncmp(storage_unit_message(all_numbers[i]), names[i], strlen(names[i])) == 0);
+    }
+    for (n = 0; n < 1000; n++) {
+        for (i = 0; i < NUMBERS && all_numbers[i] != n; i++) {
+        }
+        CHECK((strcmp(storage_unit_message(n), other) == 0) == (i == NUMBERS));
+    }
 }
 
 static void answers(void)
@@ -254,8 +314,393 @@ static void short_way(void)
     CHECK(storage_unit_number(fetch(0, 0x1000, buffer, 1)) == STORAGE_UNIT_NUMBER_RECORD);
 }
 
+/* A store from bytes and a fetch from storage that are in read-only memory. */
+static void constant_bytes(void)
+{
+    static const uint8_t constant[STORAGE_UNIT_STORAGE_MULTIPLE] = {0xC1, 0xC2, 0xC3, 0xC4};
+    uint64_t answer;
+
+    start();
+    answer = storage_unit_fetch(0, constant, sizeof constant, keys,
+                                storage_unit_key_count(0, sizeof constant), 0, 1, buffer, 2);
+    CHECK(storage_unit_number(answer) == STORAGE_UNIT_NUMBER_COMPLETED);
+    CHECK(buffer[0] == 0xC2 && buffer[1] == 0xC3 && buffer[2] == 0xEE);
+    CHECK(storage_unit_number(store(0, 16, constant, 4)) == STORAGE_UNIT_NUMBER_COMPLETED);
+    CHECK(memcmp(storage + 16, constant, 4) == 0 && storage[20] == 0);
+}
+
+/* The storage of the tests above as a machine, with 2K units and the extensions. */
+static struct storage_unit_machine machine_of_tests(void)
+{
+    struct storage_unit_machine machine;
+
+    machine.settings = STORAGE_UNIT_EXTENSIONS;
+    machine.storage = storage;
+    machine.storage_length = sizeof storage;
+    machine.keys = keys;
+    machine.keys_length = sizeof keys;
+    machine.records = records;
+    machine.records_length = sizeof records;
+    return machine;
+}
+
+static int is_completed(uint64_t answer)
+{
+    return storage_unit_number(answer) == STORAGE_UNIT_NUMBER_COMPLETED;
+}
+
+/* Each function of a machine, with its operands and what it leaves. */
+static void machine_functions(void)
+{
+    static const uint8_t text[2] = {0xC1, 0xC2};
+    struct storage_unit_machine machine = machine_of_tests();
+    uint64_t answer;
+
+    start();
+    CHECK(is_completed(storage_unit_store_bytes(&machine, 1, 2047, text, sizeof text)));
+    CHECK(storage[2046] == 0 && storage[2047] == 0xC1 && storage[2048] == 0xC2 && storage[2049] == 0);
+    CHECK(is_completed(storage_unit_fetch_bytes(&machine, 0, 2048, buffer, 1)));
+    CHECK(buffer[0] == 0xC2 && buffer[1] == 0xEE);
+    CHECK(is_completed(storage_unit_ssk(&machine, 0, 0x8F, 0x1800)));
+    CHECK(keys[2] == 0 && keys[3] == 0x8E);
+    answer = storage_unit_isk(&machine, 0, 0x12345678, 0x1800);
+    CHECK(is_completed(answer) && storage_unit_word(answer) == 0x1234568E);
+    CHECK(is_completed(storage_unit_rrb(&machine, 1, 0x1FFF)));
+    CHECK(keys[3] == 0x8A && storage_unit_code(storage_unit_record(records, 1)) == 3);
+    CHECK(is_completed(storage_unit_sske(&machine, 0, 0x36, 0x1000)));
+    CHECK(keys[2] == 0x36 && keys[3] == 0x36);
+    answer = storage_unit_iske(&machine, 0, 0xFF, 0x1000);
+    CHECK(is_completed(answer) && storage_unit_word(answer) == 0x36);
+    CHECK(is_completed(storage_unit_rrbe(&machine, 0, 0x1FFF)));
+    CHECK(keys[2] == 0x32 && keys[3] == 0x32 && storage_unit_code(records) == 3);
+    CHECK(is_completed(storage_unit_set_prefix(&machine, 1, 0xFF001FFF)));
+    CHECK(storage_unit_prefix(storage_unit_record(records, 1)) == 0x1000);
+    CHECK(storage_unit_word(storage_unit_store_prefix(&machine, 1)) == 0x1000);
+    CHECK(storage_unit_word(storage_unit_store_prefix(&machine, 0)) == 0);
+}
+
+/* ---- Random requests, by storage_unit_request and by the functions of a machine. */
+
+#define RANDOM_LENGTH   12288u
+#define RANDOM_REQUESTS 300000u
+#define OPERATIONS      10u
+
+/*
+ * All that a request is lent, and a key, a record and a byte of the buffer too many. It consists of
+ * bytes, so that two of them are equal by memcmp.
+ */
+struct lent {
+    uint8_t storage[RANDOM_LENGTH];
+    uint8_t keys[RANDOM_LENGTH / STORAGE_UNIT_KEY_UNIT_2K + 1];
+    uint8_t records[STORAGE_UNIT_RECORDS_LENGTH + STORAGE_UNIT_RECORD_LENGTH];
+    uint8_t buffer[STORAGE_UNIT_ACCESS_MAXIMUM + 1];
+};
+
+struct random_request {
+    uint32_t processor_number;
+    uint32_t operation;
+    uint32_t first;
+    uint32_t second;
+};
+
+/* A random number below `bound`, by a generator of 64 bits (xorshift). */
+static uint32_t below(uint32_t bound)
+{
+    static uint64_t state = UINT64_C(88172645463325252);
+
+    state ^= state << 13;
+    state ^= state >> 7;
+    state ^= state << 17;
+    return (uint32_t)(state >> 32) % bound;
+}
+
+static int one_in(uint32_t n)
+{
+    return below(n) == 0;
+}
+
+static void make_bytes(uint8_t *bytes, size_t count)
+{
+    size_t i;
+
+    for (i = 0; i < count; i++) {
+        bytes[i] = (uint8_t)below(256);
+    }
+}
+
+/* A random record, mostly a right one. */
+static void make_record(uint8_t *record)
+{
+    storage_unit_put_psw_key(record, (uint8_t)(one_in(64) ? below(256) : below(4)));
+    storage_unit_put_controls(record, (uint8_t)(one_in(64) ? below(256) : below(8)));
+    storage_unit_put_code(record, (uint8_t)(one_in(64) ? below(256) : below(4)));
+    record[STORAGE_UNIT_RESERVED_AT] = (uint8_t)(one_in(64) ? below(256) : 0);
+    storage_unit_put_prefix(record, one_in(64) ? below(UINT32_MAX) : below(3) * 4096);
+}
+
+/* Random bytes to lend. Access control is 0 to 3 in keys, as in most PSW keys. */
+static void make_lent(struct lent *lent)
+{
+    size_t i;
+
+    make_bytes(lent->storage, sizeof lent->storage);
+    make_bytes(lent->keys, sizeof lent->keys);
+    for (i = 0; i < sizeof lent->keys; i++) {
+        lent->keys[i] &= 0x3F;
+    }
+    make_record(storage_unit_record(lent->records, 0));
+    make_record(storage_unit_record(lent->records, 1));
+    make_record(storage_unit_record(lent->records, 2));
+}
+
+/* A random machine over these bytes, mostly a right one. */
+static struct storage_unit_machine make_machine(struct lent *lent)
+{
+    struct storage_unit_machine machine;
+
+    machine.settings = one_in(32) ? below(16) : below(4);
+    machine.storage = lent->storage;
+    machine.storage_length = one_in(32) ? below(RANDOM_LENGTH) : (1 + below(3)) * 4096;
+    machine.keys = lent->keys;
+    machine.keys_length = storage_unit_key_count(machine.settings, machine.storage_length);
+    if (one_in(32)) {
+        machine.keys_length += 1;
+    }
+    machine.records = lent->records;
+    machine.records_length = one_in(32) ? below(25) : STORAGE_UNIT_RECORDS_LENGTH;
+    return machine;
+}
+
+static struct random_request make_request(void)
+{
+    struct random_request asked;
+    uint32_t anywhere = one_in(16) ? below(UINT32_MAX) : below(RANDOM_LENGTH + 256);
+
+    asked.processor_number = one_in(32) ? below(4) : below(2);
+    asked.operation = below(OPERATIONS);
+    if (asked.operation == STORAGE_UNIT_FETCH || asked.operation == STORAGE_UNIT_STORE) {
+        asked.first = anywhere;
+        asked.second = one_in(2) ? below(8) : below(STORAGE_UNIT_ACCESS_MAXIMUM + 2);
+    } else if (asked.operation == STORAGE_UNIT_SET_PREFIX) {
+        asked.first = anywhere;
+        asked.second = below(UINT32_MAX);
+    } else {
+        asked.first = below(UINT32_MAX);
+        asked.second = one_in(8) ? anywhere : anywhere & ~UINT32_C(15);
+    }
+    return asked;
+}
+
+static size_t buffer_length(const struct random_request *asked)
+{
+    return asked->operation <= STORAGE_UNIT_STORE ? asked->second : 0;
+}
+
+static uint64_t by_request(const struct storage_unit_machine *machine,
+                           const struct random_request *asked, uint8_t *bytes)
+{
+    return storage_unit_request(machine->settings, machine->storage, machine->storage_length,
+                                machine->keys, machine->keys_length, machine->records,
+                                machine->records_length, asked->processor_number,
+                                asked->operation, asked->first, asked->second, bytes,
+                                buffer_length(asked));
+}
+
+static uint64_t by_function(const struct storage_unit_machine *machine,
+                            const struct random_request *asked, uint8_t *bytes)
+{
+    uint32_t n = asked->processor_number, first = asked->first, second = asked->second;
+
+    switch (asked->operation) {
+    case STORAGE_UNIT_FETCH:
+        return storage_unit_fetch_bytes(machine, n, first, bytes, second);
+    case STORAGE_UNIT_STORE:
+        return storage_unit_store_bytes(machine, n, first, bytes, second);
+    case STORAGE_UNIT_ISK:
+        return storage_unit_isk(machine, n, first, second);
+    case STORAGE_UNIT_SSK:
+        return storage_unit_ssk(machine, n, first, second);
+    case STORAGE_UNIT_RRB:
+        return storage_unit_rrb(machine, n, second);
+    case STORAGE_UNIT_ISKE:
+        return storage_unit_iske(machine, n, first, second);
+    case STORAGE_UNIT_SSKE:
+        return storage_unit_sske(machine, n, first, second);
+    case STORAGE_UNIT_RRBE:
+        return storage_unit_rrbe(machine, n, second);
+    case STORAGE_UNIT_SET_PREFIX:
+        return storage_unit_set_prefix(machine, n, first);
+    default:
+        return storage_unit_store_prefix(machine, n);
+    }
+}
+
+/* How many of these bytes differ. */
+static size_t changed(const uint8_t *before, const uint8_t *after, size_t count)
+{
+    size_t differing = 0, i;
+
+    if (memcmp(before, after, count) != 0) {
+        for (i = 0; i < count; i++) {
+            differing += before[i] != after[i];
+        }
+    }
+    return differing;
+}
+
+/* The absolute address of a real address. */
+static uint32_t absolute(uint32_t prefix, uint32_t real)
+{
+    uint32_t block = real & ~UINT32_C(0xFFF);
+
+    if (block == 0) {
+        return real + prefix;
+    }
+    return block == prefix ? real - prefix : real;
+}
+
+/* How many of the bytes that a completed store names differ. */
+static size_t changed_bytes_named(const struct random_request *asked, uint32_t prefix,
+                                  const struct lent *before, const struct lent *after)
+{
+    size_t differing = 0;
+    uint32_t i;
+
+    for (i = 0; i < asked->second; i++) {
+        uint32_t at = absolute(prefix, asked->first + i);
+
+        differing += before->storage[at] != after->storage[at];
+    }
+    return differing;
+}
+
+/* How many of the keys that a completed request names differ. */
+static size_t changed_keys_named(uint32_t settings, const struct random_request *asked,
+                                 uint32_t prefix, const struct lent *before,
+                                 const struct lent *after)
+{
+    uint32_t from, to; /* real addresses in the first unit and in the last */
+    size_t unit = storage_unit_key_unit(settings), one, other;
+
+    switch (asked->operation) {
+    case STORAGE_UNIT_FETCH:
+    case STORAGE_UNIT_STORE:
+        from = asked->first;
+        to = asked->first + asked->second - 1;
+        break;
+    case STORAGE_UNIT_SSK:
+    case STORAGE_UNIT_RRB:
+        from = asked->second & 0x00FFF800u;
+        to = from;
+        break;
+    case STORAGE_UNIT_SSKE:
+    case STORAGE_UNIT_RRBE:
+        from = asked->second & 0x7FFFF000u;
+        to = from + 2048;
+        break;
+    default:
+        return 0;
+    }
+    one = absolute(prefix, from) / unit;
+    other = absolute(prefix, to) / unit;
+    return (size_t)(before->keys[one] != after->keys[one])
+           + (size_t)(one != other && before->keys[other] != after->keys[other]);
+}
+
+/* What the header says under "What a call never writes": each byte that has changed is named there. */
+static void never_written(uint32_t settings, const struct random_request *asked, uint32_t answered,
+                          const struct lent *before, const struct lent *after)
+{
+    size_t of_storage = changed(before->storage, after->storage, sizeof before->storage);
+    size_t of_keys = changed(before->keys, after->keys, sizeof before->keys);
+    size_t of_records = changed(before->records, after->records, sizeof before->records);
+    size_t of_buffer = changed(before->buffer, after->buffer, sizeof before->buffer);
+    const uint8_t *own = before->records, *own_after = after->records;
+    uint32_t prefix;
+
+    if (answered != STORAGE_UNIT_NUMBER_COMPLETED) {
+        CHECK(of_storage == 0 && of_keys == 0 && of_records == 0 && of_buffer == 0);
+        return;
+    }
+    own += STORAGE_UNIT_RECORD_LENGTH * asked->processor_number;
+    own_after += STORAGE_UNIT_RECORD_LENGTH * asked->processor_number;
+    prefix = storage_unit_prefix(own);
+    CHECK(of_keys == changed_keys_named(settings, asked, prefix, before, after));
+    switch (asked->operation) {
+    case STORAGE_UNIT_FETCH:
+        CHECK(of_storage == 0 && of_records == 0);
+        CHECK(of_buffer == changed(before->buffer, after->buffer, asked->second));
+        break;
+    case STORAGE_UNIT_STORE:
+        CHECK(of_storage == changed_bytes_named(asked, prefix, before, after));
+        CHECK(of_records == 0 && of_buffer == 0);
+        break;
+    case STORAGE_UNIT_RRB:
+    case STORAGE_UNIT_RRBE:
+        CHECK(of_storage == 0 && of_buffer == 0);
+        CHECK(of_records
+              == changed(own + STORAGE_UNIT_CODE_AT, own_after + STORAGE_UNIT_CODE_AT, 1));
+        break;
+    case STORAGE_UNIT_SET_PREFIX:
+        CHECK(of_storage == 0 && of_buffer == 0);
+        CHECK(of_records
+              == changed(own + STORAGE_UNIT_PREFIX_AT, own_after + STORAGE_UNIT_PREFIX_AT, 4));
+        break;
+    default:
+        CHECK(of_storage == 0 && of_records == 0 && of_buffer == 0);
+    }
+}
+
+/* The same requests both ways, from equal bytes: equal answers and equal bytes. */
+static void random_requests(void)
+{
+    static struct lent one, other, before;
+    struct storage_unit_machine machine = make_machine(&one), same;
+    uint32_t given[NUMBERS] = {0}, completions[OPERATIONS] = {0};
+    uint32_t i;
+    size_t j;
+
+    for (i = 0; i < RANDOM_REQUESTS && failures == 0; i++) {
+        struct random_request asked = make_request();
+        uint64_t answer;
+
+        if (i % 64 == 0) {
+            make_lent(&one);
+            machine = make_machine(&one);
+        } else if (i % 8 == 0) {
+            make_record(storage_unit_record(one.records, below(2)));
+        }
+        make_bytes(one.buffer, 8);
+        before = one;
+        other = one;
+        same = machine;
+        same.storage = other.storage;
+        same.keys = other.keys;
+        same.records = other.records;
+        answer = by_request(&machine, &asked, one.buffer);
+        CHECK(by_function(&same, &asked, other.buffer) == answer);
+        CHECK(memcmp(&one, &other, sizeof one) == 0);
+        never_written(machine.settings, &asked, storage_unit_number(answer), &before, &one);
+        for (j = 0; j < NUMBERS; j++) {
+            given[j] += all_numbers[j] == storage_unit_number(answer);
+        }
+        completions[asked.operation] += is_completed(answer) != 0;
+    }
+    if (failures != 0) {
+        return;
+    }
+    for (j = 0; j < NUMBERS; j++) {
+        CHECK(given[j] >= 100);
+    }
+    for (j = 0; j < OPERATIONS; j++) {
+        CHECK(completions[j] >= 1000);
+    }
+}
+
 int main(void)
 {
+    version();
+    messages();
     answers();
     sizes();
     lengths();
@@ -264,5 +709,8 @@ int main(void)
     rules();
     numbers();
     short_way();
+    constant_bytes();
+    machine_functions();
+    random_requests();
     return failures == 0 ? 0 : 1;
 }

@@ -1,14 +1,17 @@
 /*
- * storage_unit.h: the storage unit of an emulated System/370, for programs in C (C99) and C++.
+ * storage_unit.h: the storage unit of an emulated System/370, for programs in C99 and C++11.
  *
  * The program owns the storage, its storage keys and the records of two processors, and lends them
  * to each call of storage_unit_request. A call takes one request of one processor (fetch, store,
  * one of the six key instructions, SET PREFIX or STORE PREFIX) and gives one answer.
  * storage_unit_fetch and storage_unit_store do the same for a fetch and a store, in less time.
  *
+ * The last part of this header serves most programs: struct storage_unit_machine, which holds what
+ * is lent, and a function for each of the ten operations, its operands under their own names.
+ *
  * The functions are in the static library libstorage_unit.a, for x86-64 Linux, which needs memmove
- * from the C library and nothing else. What a call answers and leaves is defined in
- * crates/host/specs/Boundary.antt and crates/host_access/specs/ShortWay.antt, and proved.
+ * from the C library and nothing else. What a call answers and leaves is proved; it is defined in
+ * crates/host/specs/Boundary.antt and crates/host_access/specs/ShortWay.antt of the repository.
  *
  * "Bit 0" of a register is the leftmost of 32, as in the manual, GA22-7000. The constants below are
  * plain values, to be used with & and |.
@@ -22,6 +25,20 @@
 #ifdef __cplusplus
 extern "C" {
 #endif
+
+/* ---- The version: 10000 x major + 100 x minor + patch, to be used with #if too. */
+
+#define STORAGE_UNIT_VERSION_MAJOR 0u
+#define STORAGE_UNIT_VERSION_MINOR 2u
+#define STORAGE_UNIT_VERSION_PATCH 0u
+#define STORAGE_UNIT_VERSION_TEXT  "0.2.0"
+
+#define STORAGE_UNIT_VERSION \
+    (10000u * STORAGE_UNIT_VERSION_MAJOR + 100u * STORAGE_UNIT_VERSION_MINOR \
+     + STORAGE_UNIT_VERSION_PATCH)
+
+/* The version of the library that is linked, by the same rule. */
+uint32_t storage_unit_version(void);
 
 /* ---- Settings, the same for both processors. */
 
@@ -131,6 +148,30 @@ extern "C" {
 #define STORAGE_UNIT_KEY_CONTROL    0x04u /* CR0 bit 7, storage-key-exception control */
 
 /*
+ * ---- What a call never writes. "Never" is proved for all numbers and bytes: after the call each
+ * such byte has the value that it had before.
+ *
+ *                storage         keys            own record       buffer
+ * refused        never           never           never            never
+ * FETCH          never           units touched   never            the first `count` bytes
+ * STORE          bytes named     units touched   never            never
+ * ISK, ISKE      never           never           never            never
+ * SSK, SSKE      never           of the block    never            never
+ * RRB, RRBE      never           of the block    condition code   never
+ * SET PREFIX     never           never           prefix           never
+ * STORE PREFIX   never           never           never            never
+ *
+ * The record of the other processor is never written. Where the table names bytes, the others are
+ * never written: bytes of storage that a store does not name, keys of other units, the rest of the
+ * record and of the buffer. In a key, a fetch sets the reference bit, a store the reference bit and
+ * the change bit, RRB and RRBE set the reference bit to zero; SSK and SSKE replace the key.
+ *
+ * Bytes behind a pointer to const are only read, and may be in read-only memory: the storage of
+ * storage_unit_fetch and the bytes of storage_unit_store. Other memory that is lent must be
+ * writable: an instruction puts a condition code into its record also where it stays the same.
+ */
+
+/*
  * storage_unit_request: one request of one processor.
  *
  * settings          STORAGE_UNIT_4K, STORAGE_UNIT_EXTENSIONS, both or 0. Another bit: 64, before
@@ -154,10 +195,7 @@ extern "C" {
  * storage_unit_word and storage_unit_rule to take apart. Test the number, not the value: the value
  * of a completed request need not be 0.
  *
- * With any number but STORAGE_UNIT_NUMBER_COMPLETED, no byte of storage, keys, records and buffer
- * has changed. When completed, a fetch or store has also set the reference bit, a store the change
- * bit, in the key of each unit touched. The only changes in records are the prefix by SET PREFIX and
- * the condition code by RRB and RRBE, in the record of the processor that asked.
+ * With any number but STORAGE_UNIT_NUMBER_COMPLETED the request is refused: nothing has changed.
  *
  * The caller must see to this:
  * - Each pointer is valid for reads and, unless it is to const, writes of as many bytes as the
@@ -178,12 +216,12 @@ uint64_t storage_unit_request(uint32_t settings,
 
 /*
  * storage_unit_fetch and storage_unit_store: a fetch and a store by a shorter way in. They answer
- * and leave what storage_unit_request does with STORAGE_UNIT_FETCH or STORAGE_UNIT_STORE, `count` as
- * the second operand and a buffer of `count` bytes.
+ * and leave what storage_unit_request does with STORAGE_UNIT_FETCH or STORAGE_UNIT_STORE, `count`
+ * as the second operand and a buffer of `count` bytes.
  *
  * settings, storage, keys  As for storage_unit_request. A fetch only reads storage.
  * record                   The processor's own record as a value, by storage_unit_record_value. An
- *                          access never changes it. A wrong value, or a reserved bit that is on: 65.
+ *                          access never changes it. A wrong value or a reserved bit that is on: 65.
  * address                  The real address of the first byte.
  * bytes                    A fetch writes them all, a store only reads them: the access is of as
  *                          many bytes as their number, `count`. 0 or more than 256: 66.
@@ -206,6 +244,35 @@ uint64_t storage_unit_store(uint32_t settings,
 static inline uint32_t storage_unit_number(uint64_t answer)
 {
     return (uint32_t)(answer >> 48);
+}
+
+/* A text for the number of an answer, with the manual's name; another text for any other number. */
+static inline const char *storage_unit_message(uint32_t number)
+{
+    switch (number) {
+    case STORAGE_UNIT_NUMBER_CONFIGURATION:
+        return "configuration: wrong settings, or a wrong length of storage or keys";
+    case STORAGE_UNIT_NUMBER_RECORD:
+        return "record: no such processor, a wrong record, or records of a wrong length";
+    case STORAGE_UNIT_NUMBER_OPERAND:
+        return "operand: no such operation, or a wrong count, address or buffer";
+    case STORAGE_UNIT_NUMBER_OPERATION:
+        return "operation exception";
+    case STORAGE_UNIT_NUMBER_PRIVILEGED:
+        return "privileged-operation exception";
+    case STORAGE_UNIT_NUMBER_SPECIAL_OPERATION:
+        return "special-operation exception";
+    case STORAGE_UNIT_NUMBER_SPECIFICATION:
+        return "specification exception";
+    case STORAGE_UNIT_NUMBER_ADDRESSING:
+        return "addressing exception";
+    case STORAGE_UNIT_NUMBER_PROTECTION:
+        return "protection exception";
+    case STORAGE_UNIT_NUMBER_COMPLETED:
+        return "completed";
+    default:
+        return "not a number of an answer";
+    }
 }
 
 /*
@@ -319,6 +386,136 @@ static inline void storage_unit_put_record(uint8_t *record, uint8_t psw_key, uin
     storage_unit_put_code(record, code);
     record[STORAGE_UNIT_RESERVED_AT] = 0u;
     storage_unit_put_prefix(record, prefix);
+}
+
+/*
+ * ---- A machine: the settings, and the bytes that the program lends, with their lengths. It owns
+ * nothing, and may be made anew for each call.
+ */
+struct storage_unit_machine {
+    uint32_t settings;
+    uint8_t *storage;
+    size_t storage_length;
+    uint8_t *keys;
+    size_t keys_length; /* storage_unit_key_count(settings, storage_length) */
+    uint8_t *records;
+    size_t records_length; /* STORAGE_UNIT_RECORDS_LENGTH */
+};
+
+/*
+ * ---- A function for each operation. It answers and leaves what storage_unit_request does with the
+ * machine's settings and bytes, and asks the same of the caller. An instruction's function has the
+ * name of its operation; those of fetch and store end in _bytes, since the shorter names are the
+ * library's. The buffer of a fetch or store is its `count` bytes.
+ */
+
+/* For the functions below: a request without a buffer. */
+static inline uint64_t storage_unit_machine_request(const struct storage_unit_machine *machine,
+                                                    uint32_t processor_number, uint32_t operation,
+                                                    uint32_t first, uint32_t second)
+{
+    return storage_unit_request(machine->settings,
+                                machine->storage, machine->storage_length,
+                                machine->keys, machine->keys_length,
+                                machine->records, machine->records_length,
+                                processor_number, operation, first, second, NULL, 0);
+}
+
+/* For the functions below: the processor has a record. Without one, each request is 64 or 65. */
+static inline int storage_unit_machine_has_record(const struct storage_unit_machine *machine,
+                                                  uint32_t processor_number)
+{
+    return machine->records_length == STORAGE_UNIT_RECORDS_LENGTH && processor_number < 2u;
+}
+
+/* FETCH: `count` bytes from the real address on. */
+static inline uint64_t storage_unit_fetch_bytes(const struct storage_unit_machine *machine,
+                                                uint32_t processor_number, uint32_t address,
+                                                uint8_t *bytes, size_t count)
+{
+    if (!storage_unit_machine_has_record(machine, processor_number)) {
+        return storage_unit_machine_request(machine, processor_number, STORAGE_UNIT_FETCH, 0u, 0u);
+    }
+    return storage_unit_fetch(machine->settings,
+                              machine->storage, machine->storage_length,
+                              machine->keys, machine->keys_length,
+                              storage_unit_record_value(
+                                  storage_unit_record(machine->records, processor_number)),
+                              address, bytes, count);
+}
+
+/* STORE: `count` bytes from the real address on. */
+static inline uint64_t storage_unit_store_bytes(const struct storage_unit_machine *machine,
+                                                uint32_t processor_number, uint32_t address,
+                                                const uint8_t *bytes, size_t count)
+{
+    if (!storage_unit_machine_has_record(machine, processor_number)) {
+        return storage_unit_machine_request(machine, processor_number, STORAGE_UNIT_STORE, 0u, 0u);
+    }
+    return storage_unit_store(machine->settings,
+                              machine->storage, machine->storage_length,
+                              machine->keys, machine->keys_length,
+                              storage_unit_record_value(
+                                  storage_unit_record(machine->records, processor_number)),
+                              address, bytes, count);
+}
+
+/* INSERT STORAGE KEY: the answer's word is R1 with the key of the 2K block that R2 designates. */
+static inline uint64_t storage_unit_isk(const struct storage_unit_machine *machine,
+                                        uint32_t processor_number, uint32_t r1, uint32_t r2)
+{
+    return storage_unit_machine_request(machine, processor_number, STORAGE_UNIT_ISK, r1, r2);
+}
+
+/* SET STORAGE KEY: the key in R1 becomes that of the 2K block that R2 designates. */
+static inline uint64_t storage_unit_ssk(const struct storage_unit_machine *machine,
+                                        uint32_t processor_number, uint32_t r1, uint32_t r2)
+{
+    return storage_unit_machine_request(machine, processor_number, STORAGE_UNIT_SSK, r1, r2);
+}
+
+/* RESET REFERENCE BIT of the 2K block in which the address lies: sets the condition code. */
+static inline uint64_t storage_unit_rrb(const struct storage_unit_machine *machine,
+                                        uint32_t processor_number, uint32_t address)
+{
+    return storage_unit_machine_request(machine, processor_number, STORAGE_UNIT_RRB, 0u, address);
+}
+
+/* INSERT STORAGE KEY EXTENDED: as ISK, with the 4K block that R2 designates. */
+static inline uint64_t storage_unit_iske(const struct storage_unit_machine *machine,
+                                         uint32_t processor_number, uint32_t r1, uint32_t r2)
+{
+    return storage_unit_machine_request(machine, processor_number, STORAGE_UNIT_ISKE, r1, r2);
+}
+
+/* SET STORAGE KEY EXTENDED: as SSK, with the 4K block that R2 designates. */
+static inline uint64_t storage_unit_sske(const struct storage_unit_machine *machine,
+                                         uint32_t processor_number, uint32_t r1, uint32_t r2)
+{
+    return storage_unit_machine_request(machine, processor_number, STORAGE_UNIT_SSKE, r1, r2);
+}
+
+/* RESET REFERENCE BIT EXTENDED: as RRB, with the 4K block that R2 designates. */
+static inline uint64_t storage_unit_rrbe(const struct storage_unit_machine *machine,
+                                         uint32_t processor_number, uint32_t r2)
+{
+    return storage_unit_machine_request(machine, processor_number, STORAGE_UNIT_RRBE, 0u, r2);
+}
+
+/* SET PREFIX: bits 8-19 of the word are the new prefix. */
+static inline uint64_t storage_unit_set_prefix(const struct storage_unit_machine *machine,
+                                               uint32_t processor_number, uint32_t word)
+{
+    return storage_unit_machine_request(machine, processor_number, STORAGE_UNIT_SET_PREFIX, word,
+                                        0u);
+}
+
+/* STORE PREFIX: the answer's word is the prefix. */
+static inline uint64_t storage_unit_store_prefix(const struct storage_unit_machine *machine,
+                                                 uint32_t processor_number)
+{
+    return storage_unit_machine_request(machine, processor_number, STORAGE_UNIT_STORE_PREFIX, 0u,
+                                        0u);
 }
 
 #ifdef __cplusplus

@@ -1,13 +1,74 @@
-//! The C functions of the storage unit: their types, and their parameters and results as
-//! numbers and bytes.
+//! The C functions of the static library, with their parameters and results as numbers and bytes.
 //!
-//! The numbers and bytes are those of `host/include/storage_unit.h`, which says what each
-//! parameter is.
+//! A program that keeps its records as bytes can call them without the types of this crate. The
+//! numbers and bytes are those of `host/include/storage_unit.h`, which says what each parameter
+//! is. The functions `call...` are for these C functions and for others of the same type.
 
 use crate::{
-    AccessKind, Answer, KeyInstruction, Number, PrefixInstruction, Processor, Request, Rule,
-    Settings,
+    AccessKind, Answer, Completed, KeyInstruction, PrefixInstruction, Processor, Reason, Refusal,
+    Request, Rule, Settings,
 };
+
+unsafe extern "C" {
+    /// The C function of the static library for every request.
+    ///
+    /// # Safety
+    ///
+    /// As for every [`RawRequest`].
+    pub fn storage_unit_request(
+        settings: u32,
+        storage: *mut u8,
+        storage_length: usize,
+        keys: *mut u8,
+        keys_length: usize,
+        records: *mut u8,
+        records_length: usize,
+        processor_number: u32,
+        operation: u32,
+        first: u32,
+        second: u32,
+        buffer: *mut u8,
+        buffer_length: usize,
+    ) -> u64;
+
+    /// The C function of the static library that fetches.
+    ///
+    /// # Safety
+    ///
+    /// As for every [`RawFetch`].
+    pub fn storage_unit_fetch(
+        settings: u32,
+        storage: *const u8,
+        storage_length: usize,
+        keys: *mut u8,
+        keys_length: usize,
+        record: u64,
+        address: u32,
+        bytes: *mut u8,
+        count: usize,
+    ) -> u64;
+
+    /// The C function of the static library that stores.
+    ///
+    /// # Safety
+    ///
+    /// As for every [`RawStore`].
+    pub fn storage_unit_store(
+        settings: u32,
+        storage: *mut u8,
+        storage_length: usize,
+        keys: *mut u8,
+        keys_length: usize,
+        record: u64,
+        address: u32,
+        bytes: *const u8,
+        count: usize,
+    ) -> u64;
+
+    /// The C function of the static library that gives its version:
+    /// 10,000 x major + 100 x minor + patch.
+    pub safe fn storage_unit_version() -> u32;
+}
 
 /// The type of the C function for every request.
 ///
@@ -99,7 +160,7 @@ pub const LOW_PROTECTION: u8 = 2;
 /// Control: bit 7 of control register 0, storage-key-exception control.
 pub const KEY_CONTROL: u8 = 4;
 /// The controls that must be zero.
-pub const RESERVED_CONTROLS: u8 = !(PROBLEM | LOW_PROTECTION | KEY_CONTROL);
+const RESERVED_CONTROLS: u8 = !(PROBLEM | LOW_PROTECTION | KEY_CONTROL);
 
 /// Operation number of a fetch.
 pub const FETCH: u32 = 0;
@@ -128,18 +189,6 @@ pub const fn encode_settings(settings: Settings) -> u32 {
     (if settings.four_k { FOUR_K } else { 0 }) | (if settings.extensions { EXTENSIONS } else { 0 })
 }
 
-/// The settings from their number, or `None` if another bit is on.
-#[inline]
-pub const fn decode_settings(settings: u32) -> Option<Settings> {
-    if settings & !(FOUR_K | EXTENSIONS) != 0 {
-        return None;
-    }
-    Some(Settings {
-        four_k: settings & FOUR_K != 0,
-        extensions: settings & EXTENSIONS != 0,
-    })
-}
-
 /// A byte of a record at its place in the number that the eight bytes make, the least
 /// significant first. Records are put together and taken apart as one number, since that
 /// takes less time than one byte after another.
@@ -166,7 +215,7 @@ pub const fn encode_processor(processor: &Processor) -> [u8; RECORD_LENGTH] {
 }
 
 /// A record from its bytes. Where a reserved bit is on, the PSW key is taken for 255, so
-/// that a request for this processor is refused with [`Number::Record`].
+/// that a request for this processor is refused with [`Reason::Record`].
 #[inline]
 pub const fn decode_processor(bytes: &[u8; RECORD_LENGTH]) -> Processor {
     record_from_value(u64::from_le_bytes(*bytes))
@@ -238,75 +287,73 @@ pub const fn encode_request(request: &Request) -> (u32, u32, u32) {
     }
 }
 
-/// The request from operation number and operands. A number that no operation has is
-/// taken for a fetch of count 0 at `first`, which is refused with [`Number::Operand`].
+/// The bits of an answer's packed form that hold the word, the place, the rule and the number.
+pub const ANSWER_WORD: u64 = 0x0000_0000_FFFF_FFFF;
+/// See [`ANSWER_WORD`].
+pub const ANSWER_PLACE: u64 = 0x0000_00FF_0000_0000;
+/// See [`ANSWER_WORD`].
+pub const ANSWER_RULE: u64 = 0x0000_FF00_0000_0000;
+/// See [`ANSWER_WORD`].
+pub const ANSWER_NUMBER: u64 = 0xFFFF_0000_0000_0000;
+
+/// The number of an answer in its packed form: 0 if the request is completed, otherwise that
+/// of a [`Reason`].
 #[inline]
-pub const fn decode_request(operation: u32, first: u32, second: u32) -> Request {
-    match operation {
-        FETCH => Request::fetch(first, second),
-        STORE => Request::store(first, second),
-        ISK => Request::Key(KeyInstruction::Isk {
-            r1: first,
-            r2: second,
-        }),
-        SSK => Request::Key(KeyInstruction::Ssk {
-            r1: first,
-            r2: second,
-        }),
-        RRB => Request::Key(KeyInstruction::Rrb { address: second }),
-        ISKE => Request::Key(KeyInstruction::Iske {
-            r1: first,
-            r2: second,
-        }),
-        SSKE => Request::Key(KeyInstruction::Sske {
-            r1: first,
-            r2: second,
-        }),
-        RRBE => Request::Key(KeyInstruction::Rrbe { r2: second }),
-        SET_PREFIX => Request::Prefix(PrefixInstruction::SetPrefix { word: first }),
-        STORE_PREFIX => Request::Prefix(PrefixInstruction::StorePrefix),
-        _ => Request::fetch(first, 0),
+#[must_use]
+pub const fn packed_number(packed: u64) -> u16 {
+    (packed >> ANSWER_NUMBER.trailing_zeros()) as u16
+}
+
+/// The answer from its packed form, or `None` if no answer has this form: its number or its
+/// rule is unknown, it is completed with a place, or it is refused with a word or a rule.
+///
+/// ```
+/// use storage_unit::boundary::decode_answer;
+/// use storage_unit::{Completed, Reason, Refusal, Rule};
+///
+/// let completed = Completed { word: 0x8E, rule: Some(Rule::Unchanged) };
+/// assert_eq!(decode_answer(0x0000_0300_0000_008E), Some(Ok(completed)));
+/// let refusal = Refusal { reason: Reason::Protection, place: 1 };
+/// assert_eq!(decode_answer(0x0004_0001_0000_0000), Some(Err(refusal)));
+/// assert_eq!(decode_answer(0x0003_0000_0000_0000), None);
+/// ```
+#[inline]
+#[must_use]
+pub const fn decode_answer(packed: u64) -> Option<Answer> {
+    if packed & (ANSWER_NUMBER | ANSWER_PLACE) == 0 {
+        let rule = match (packed >> ANSWER_RULE.trailing_zeros()) as u8 {
+            0 => None,
+            1 => Some(Rule::Zero),
+            2 => Some(Rule::Prefix),
+            3 => Some(Rule::Unchanged),
+            _ => return None,
+        };
+        let word = packed as u32;
+        return Some(Ok(Completed { word, rule }));
+    }
+    if packed & (ANSWER_WORD | ANSWER_RULE) != 0 {
+        return None;
+    }
+    let place = (packed >> ANSWER_PLACE.trailing_zeros()) as u8;
+    match Reason::from_number(packed_number(packed)) {
+        Some(reason) => Some(Err(Refusal { reason, place })),
+        None => None,
     }
 }
 
-/// The answer as one number: word in the low 32 bits, place in the next 8, rule in the
-/// next 8 (0 for none), number in the highest 16.
-#[inline]
-pub const fn encode_answer(answer: Answer) -> u64 {
-    let rule = match answer.rule {
-        Some(rule) => rule.number(),
-        None => 0,
-    };
-    (answer.word as u64)
-        | ((answer.place as u64 & 0xFF) << 32)
-        | ((rule as u64) << 40)
-        | ((answer.number.code() as u64) << 48)
-}
+/// What stands for an answer that this crate does not know. A library of another version gave
+/// it; that of this version never does.
+const UNKNOWN: Answer = Err(Refusal {
+    reason: Reason::Configuration,
+    place: u8::MAX,
+});
 
-/// The number of an answer in its packed form.
+/// The answer from its packed form, whatever that is.
 #[inline]
-pub const fn packed_number(packed: u64) -> u16 {
-    (packed >> 48) as u16
-}
-
-/// The answer from its packed form, or `None` if its number or its rule is unknown.
-#[inline]
-pub const fn decode_answer(packed: u64) -> Option<Answer> {
-    let rule = match (packed >> 40) as u8 {
-        0 => None,
-        1 => Some(Rule::Zero),
-        2 => Some(Rule::Prefix),
-        3 => Some(Rule::Unchanged),
-        _ => return None,
-    };
-    match Number::from_code(packed_number(packed)) {
-        Some(number) => Some(Answer {
-            number,
-            place: (packed >> 32) as u16 & 0xFF,
-            word: packed as u32,
-            rule,
-        }),
-        None => None,
+const fn answer_given(packed: u64) -> Answer {
+    match decode_answer(packed) {
+        Some(answer) => answer,
+        None => UNKNOWN,
     }
 }
 
@@ -352,10 +399,6 @@ pub unsafe fn call_raw(
 
 /// Carries out a fetch through a C function.
 ///
-/// # Panics
-///
-/// If the function answers with a number or a rule that the documents do not have.
-///
 /// # Safety
 ///
 /// `raw` must be a function as [`RawFetch`] describes it.
@@ -389,10 +432,6 @@ pub unsafe fn call_fetch(
 
 /// Carries out a store through a C function.
 ///
-/// # Panics
-///
-/// If the function answers with a number or a rule that the documents do not have.
-///
 /// # Safety
 ///
 /// `raw` must be a function as [`RawStore`] describes it.
@@ -423,20 +462,7 @@ pub unsafe fn call_store(
     answer_given(packed)
 }
 
-/// The answer from its packed form.
-#[inline]
-fn answer_given(packed: u64) -> Answer {
-    match decode_answer(packed) {
-        Some(answer) => answer,
-        None => panic!("the storage unit gave an unknown answer: {packed:#018x}"),
-    }
-}
-
 /// Carries out one request through a C function.
-///
-/// # Panics
-///
-/// If the function answers with a number or a rule that the documents do not have.
 ///
 /// # Safety
 ///

@@ -3,14 +3,14 @@
 #![allow(dead_code)]
 
 pub mod cases;
-pub mod short_way;
 
 use std::env;
 use std::str::FromStr;
 
 use storage_unit::{
-    AccessKind, Answer, KeyInstruction, PrefixInstruction, Processor, Request, Rule, Settings, Unit,
+    AccessKind, Answer, KeyInstruction, Processor, Reason, Request, Rule, Settings,
 };
+use storage_unit_comparison::Unit;
 
 /// The number of 24-bit addresses.
 pub const ADDRESSES_24: u32 = 16_777_216;
@@ -88,6 +88,15 @@ impl Random {
         self.fill(&mut bytes);
         bytes
     }
+}
+
+/// What an answer says without its values: completed, or the reason of the refusal.
+pub type Outcome = Result<(), Reason>;
+
+pub const COMPLETED: Outcome = Ok(());
+
+pub fn outcome(answer: Answer) -> Outcome {
+    answer.map(|_| ()).map_err(|refusal| refusal.reason)
 }
 
 /// Everything that is lent to the unit, with the settings.
@@ -298,32 +307,20 @@ pub fn random_request(random: &mut Random, aim: &Aim) -> Request {
     match random.below(40) {
         0..=9 => access(random, aim, AccessKind::Fetch),
         10..=19 => access(random, aim, AccessKind::Store),
-        20..=22 => Request::Key(KeyInstruction::Isk {
-            r1: random.word(),
-            r2: register_for_2k_block(random, aim),
-        }),
-        23..=25 => Request::Key(KeyInstruction::Ssk {
-            r1: register_with_key(random),
-            r2: register_for_2k_block(random, aim),
-        }),
-        26..=28 => Request::Key(KeyInstruction::Rrb {
-            address: random_address(random, aim),
-        }),
-        29..=30 => Request::Key(KeyInstruction::Iske {
-            r1: random.word(),
-            r2: register_for_4k_block(random, aim),
-        }),
-        31..=32 => Request::Key(KeyInstruction::Sske {
-            r1: register_with_key(random),
-            r2: register_for_4k_block(random, aim),
-        }),
-        33..=34 => Request::Key(KeyInstruction::Rrbe {
-            r2: register_for_4k_block(random, aim),
-        }),
-        35..=37 => Request::Prefix(PrefixInstruction::SetPrefix {
-            word: word_with_prefix(random, aim),
-        }),
-        _ => Request::Prefix(PrefixInstruction::StorePrefix),
+        20..=22 => Request::isk(random.word(), register_for_2k_block(random, aim)),
+        23..=25 => Request::ssk(
+            register_with_key(random),
+            register_for_2k_block(random, aim),
+        ),
+        26..=28 => Request::rrb(random_address(random, aim)),
+        29..=30 => Request::iske(random.word(), register_for_4k_block(random, aim)),
+        31..=32 => Request::sske(
+            register_with_key(random),
+            register_for_4k_block(random, aim),
+        ),
+        33..=34 => Request::rrbe(register_for_4k_block(random, aim)),
+        35..=37 => Request::set_prefix(word_with_prefix(random, aim)),
+        _ => Request::store_prefix(),
     }
 }
 

@@ -5,13 +5,13 @@ mod support;
 use std::ptr::null_mut;
 
 use storage_unit::boundary::*;
-use storage_unit::reference;
-use storage_unit::{
-    Answer, KeyInstruction, Number, PrefixInstruction, Processor, Request, Rule, Settings,
-};
+use storage_unit::{Processor, Reason, Request, Rule, Settings};
+use storage_unit_comparison::numbers::*;
+use storage_unit_comparison::{self as comparison, reference};
 
 use support::{
-    random_buffer, random_key, random_processor, random_request, Aim, Random, ADDRESSES_24,
+    ADDRESSES_24, Aim, COMPLETED, Outcome, Random, outcome, random_buffer, random_key,
+    random_processor, random_request,
 };
 
 #[test]
@@ -103,17 +103,14 @@ fn requests_have_operation_and_two_operands() {
     for (request, encoded) in [
         (Request::fetch(5, 6), (0, 5, 6)),
         (Request::store(5, 6), (1, 5, 6)),
-        (Request::Key(KeyInstruction::Isk { r1, r2 }), (2, r1, r2)),
-        (Request::Key(KeyInstruction::Ssk { r1, r2 }), (3, r1, r2)),
-        (Request::Key(KeyInstruction::Rrb { address: 7 }), (4, 0, 7)),
-        (Request::Key(KeyInstruction::Iske { r1, r2 }), (5, r1, r2)),
-        (Request::Key(KeyInstruction::Sske { r1, r2 }), (6, r1, r2)),
-        (Request::Key(KeyInstruction::Rrbe { r2 }), (7, 0, r2)),
-        (
-            Request::Prefix(PrefixInstruction::SetPrefix { word: 8 }),
-            (8, 8, 0),
-        ),
-        (Request::Prefix(PrefixInstruction::StorePrefix), (9, 0, 0)),
+        (Request::isk(r1, r2), (2, r1, r2)),
+        (Request::ssk(r1, r2), (3, r1, r2)),
+        (Request::rrb(7), (4, 0, 7)),
+        (Request::iske(r1, r2), (5, r1, r2)),
+        (Request::sske(r1, r2), (6, r1, r2)),
+        (Request::rrbe(r2), (7, 0, r2)),
+        (Request::set_prefix(8), (8, 8, 0)),
+        (Request::store_prefix(), (9, 0, 0)),
     ] {
         assert_eq!(encode_request(&request), encoded);
         let (operation, first, second) = encoded;
@@ -128,45 +125,45 @@ fn requests_have_operation_and_two_operands() {
 fn answers_are_packed() {
     for (answer, packed) in [
         (
-            Answer::refused(Number::SpecialOperation, 0xFE),
+            comparison::refused(Reason::SpecialOperation, 0xFE),
             0x0013_00FE_0000_0000,
         ),
-        (Answer::completed(0x8899_AABB, None), 0x8899_AABB),
+        (comparison::completed(0x8899_AABB, None), 0x8899_AABB),
         (
-            Answer::completed(0x8899_AABB, Some(Rule::Zero)),
+            comparison::completed(0x8899_AABB, Some(Rule::Zero)),
             0x0000_0100_8899_AABB,
         ),
         (
-            Answer::completed(0, Some(Rule::Prefix)),
+            comparison::completed(0, Some(Rule::Prefix)),
             0x0000_0200_0000_0000,
         ),
         (
-            Answer::completed(0, Some(Rule::Unchanged)),
+            comparison::completed(0, Some(Rule::Unchanged)),
             0x0000_0300_0000_0000,
         ),
     ] {
         assert_eq!(encode_answer(answer), packed);
         assert_eq!(decode_answer(packed), Some(answer));
     }
-    // The numbers 3 and 67, and the rules 4 and 255.
+    // The numbers 3 and 67; the rules 4 and 255; completed with a place; refused with a word,
+    // and with a rule.
     for unknown in [
         0x0003_0000_0000_0000,
         0x0043_0000_0000_0000,
         0x0000_0400_0000_0000,
         0x0000_FF00_0000_0000,
+        0x0000_0001_0000_0000,
+        0x0005_0000_0000_0001,
+        0x0005_0100_0000_0000,
     ] {
         assert_eq!(decode_answer(unknown), None);
     }
-    for code in 0..=u16::MAX {
-        let number = Number::from_code(code);
-        assert_eq!(
-            number.is_some(),
-            Number::ALL.iter().any(|number| number.code() == code)
-        );
-        if let Some(number) = number {
-            assert_eq!(number.code(), code);
-            let answer = Answer::refused(number, 255);
-            assert_eq!(decode_answer(encode_answer(answer)), Some(answer));
+    for number in 1..=u16::MAX {
+        let packed = u64::from(number) << 48 | 0xFF << 32;
+        let answer = Reason::try_from(number).map(|reason| comparison::refused(reason, 255));
+        assert_eq!(decode_answer(packed), answer.ok());
+        if let Ok(answer) = answer {
+            assert_eq!(encode_answer(answer), packed);
         }
     }
 }
@@ -278,24 +275,27 @@ const COMPLETING: [(u32, u32, u32); 10] = [
 /// The request completes.
 fn completes(raw: RawRequest, bytes: &mut Bytes, processor: u32, request: (u32, u32, u32)) {
     let packed = bytes.call(raw, EXTENSIONS, processor, request);
-    let number = decode_answer(packed).map(|answer| answer.number);
-    assert_eq!(number, Some(Number::Completed), "{request:?}");
+    assert_eq!(
+        decode_answer(packed).map(outcome),
+        Some(COMPLETED),
+        "{request:?}"
+    );
 }
 
-/// The request is refused with this number and place 0, and nothing lent changes.
+/// The request is refused for this reason with place 0, and nothing lent changes.
 fn refused(
     raw: RawRequest,
     before: &Bytes,
     settings: u32,
     processor: u32,
     request: (u32, u32, u32),
-    number: Number,
+    reason: Reason,
 ) {
     let mut bytes = before.clone();
     let packed = bytes.call(raw, settings, processor, request);
     assert_eq!(
         decode_answer(packed),
-        Some(Answer::refused(number, 0)),
+        Some(comparison::refused(reason, 0)),
         "{request:?}, settings {settings}, processor {processor}"
     );
     assert!(bytes == *before, "{request:?}");
@@ -317,7 +317,7 @@ fn other_settings(raw: RawRequest) {
                         settings,
                         processor,
                         request,
-                        Number::Configuration,
+                        Reason::Configuration,
                     );
                     refused(
                         raw,
@@ -325,7 +325,7 @@ fn other_settings(raw: RawRequest) {
                         settings,
                         processor,
                         request,
-                        Number::Configuration,
+                        Reason::Configuration,
                     );
                 }
             }
@@ -343,18 +343,18 @@ fn other_operations(raw: RawRequest) {
     for operation in [10, 11, 255, 256, 257, 65_536, 1 << 31, u32::MAX] {
         for (_, first, second) in COMPLETING {
             let request = (operation, first, second);
-            refused(raw, &bytes, EXTENSIONS, 0, request, Number::Operand);
-            refused(raw, &bytes, EXTENSIONS, 1, request, Number::Operand);
-            refused(raw, &bytes, EXTENSIONS, 2, request, Number::Record);
-            refused(raw, &bad_record, EXTENSIONS, 0, request, Number::Record);
-            refused(raw, &bad_record, EXTENSIONS, 1, request, Number::Operand);
+            refused(raw, &bytes, EXTENSIONS, 0, request, Reason::Operand);
+            refused(raw, &bytes, EXTENSIONS, 1, request, Reason::Operand);
+            refused(raw, &bytes, EXTENSIONS, 2, request, Reason::Record);
+            refused(raw, &bad_record, EXTENSIONS, 0, request, Reason::Record);
+            refused(raw, &bad_record, EXTENSIONS, 1, request, Reason::Operand);
             refused(
                 raw,
                 &bad_lengths,
                 EXTENSIONS,
                 0,
                 request,
-                Number::Configuration,
+                Reason::Configuration,
             );
         }
     }
@@ -369,14 +369,14 @@ fn other_lengths_of_records(raw: RawRequest) {
         bad_lengths.storage.pop();
         for request in COMPLETING.into_iter().chain([(10, 0, 0)]) {
             for processor in 0..4 {
-                refused(raw, &bytes, EXTENSIONS, processor, request, Number::Record);
+                refused(raw, &bytes, EXTENSIONS, processor, request, Reason::Record);
                 refused(
                     raw,
                     &bad_lengths,
                     EXTENSIONS,
                     processor,
                     request,
-                    Number::Configuration,
+                    Reason::Configuration,
                 );
             }
         }
@@ -397,7 +397,7 @@ fn reserved_bits_of_records(raw: RawRequest) {
                     EXTENSIONS,
                     processor as u32,
                     request,
-                    Number::Record,
+                    Reason::Record,
                 );
                 let mut after = bytes.clone();
                 completes(raw, &mut after, 1 - processor as u32, request);
@@ -455,25 +455,29 @@ fn null_pointers(raw: RawRequest) {
                 operation, first, second, buffer.0, buffer.1,
             )
         };
-        decode_answer(packed).map(|answer| answer.number)
+        decode_answer(packed).map(outcome)
     };
     for request in COMPLETING.into_iter().chain([(10, 0, 0)]) {
         for choice in 0..16 {
             let null = [0, 1, 2, 3].map(|index| choice >> index & 1 == 1);
             let [no_storage, no_keys, no_records, no_buffer] = null;
             let uses_buffer = matches!(request.0, FETCH | STORE);
-            let number = if no_storage || no_keys {
-                Number::Configuration
+            let expected: Outcome = if no_storage || no_keys {
+                Err(Reason::Configuration)
             } else if no_records {
-                Number::Record
+                Err(Reason::Record)
             } else if request.0 == 10 || (uses_buffer && no_buffer) {
-                Number::Operand
+                Err(Reason::Operand)
             } else {
-                Number::Completed
+                COMPLETED
             };
             bytes.clone_from(&Bytes::new());
-            assert_eq!(call(&mut bytes, null, request), Some(number), "{request:?}");
-            if number != Number::Completed {
+            assert_eq!(
+                call(&mut bytes, null, request),
+                Some(expected),
+                "{request:?}"
+            );
+            if expected.is_err() {
                 assert!(bytes == Bytes::new(), "{request:?}");
             }
         }
@@ -488,7 +492,7 @@ fn expected_call(
     (operation, first, second): (u32, u32, u32),
 ) -> u64 {
     let Some(settings) = decode_settings(settings) else {
-        return encode_answer(Answer::refused(Number::Configuration, 0));
+        return encode_answer(comparison::refused(Reason::Configuration, 0));
     };
     let (mut processors, processor) = match bytes.records[..].try_into() {
         Ok(records) => (decode_processors(records), processor),
@@ -503,7 +507,7 @@ fn expected_call(
         &decode_request(operation, first, second),
         &mut bytes.buffer,
     );
-    if answer.number == Number::Completed {
+    if answer.is_ok() {
         let processor = processor as usize;
         let own = encode_processor(&processors[processor]);
         bytes.record(processor).copy_from_slice(&own);
@@ -619,7 +623,7 @@ fn short_way_as_request(request: RawRequest, fetch: RawFetch, store: RawStore) {
 
 #[test]
 fn plain_short_way_as_request() {
-    use storage_unit::plain::*;
+    use storage_unit_comparison::plain::*;
     short_way_as_request(
         storage_unit_request_plain,
         storage_unit_fetch_plain,
@@ -629,15 +633,14 @@ fn plain_short_way_as_request() {
 
 #[test]
 fn proved_short_way_as_request() {
-    use storage_unit::proved::*;
     short_way_as_request(storage_unit_request, storage_unit_fetch, storage_unit_store);
 }
 
 /// Makes one test for each named case and each C function.
 macro_rules! for_each_function {
     ($($case:ident)*) => {
-        for_each_function!(@module plain, storage_unit::plain::storage_unit_request_plain: $($case)*);
-        for_each_function!(@module proved, storage_unit::proved::storage_unit_request: $($case)*);
+        for_each_function!(@module plain, storage_unit_comparison::plain::storage_unit_request_plain: $($case)*);
+        for_each_function!(@module proved, storage_unit::boundary::storage_unit_request: $($case)*);
     };
     (@module $module:ident, $function:path: $($case:ident)*) => {
         mod $module {

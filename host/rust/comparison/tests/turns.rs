@@ -12,11 +12,10 @@ mod support;
 
 use std::collections::BTreeSet;
 
-use storage_unit::reference::{units_named, Reference};
-use storage_unit::{
-    AccessKind, Answer, KeyInstruction, Number, PrefixInstruction, Processor, Request, Settings,
-    Unit,
-};
+use storage_unit::{AccessKind, Answer, PrefixInstruction, Processor, Reason, Request, Settings};
+use storage_unit_comparison::Unit;
+use storage_unit_comparison::reference::units_named;
+use storage_unit_comparison::units::Reference;
 
 use support::*;
 
@@ -54,14 +53,14 @@ impl Turn {
 
 /// What a run leaves: the state, and for each list the answers and buffers in order.
 #[derive(PartialEq)]
-struct Outcome {
+struct Left {
     lent: Lent,
     results: [Vec<(Answer, Vec<u8>)>; 2],
 }
 
 /// Runs the lists in an order of turns; each element is the list whose turn it is.
-fn run<U: Unit>(start: &Lent, lists: &[Vec<Turn>; 2], order: &[usize]) -> Outcome {
-    let mut outcome = Outcome {
+fn run<U: Unit>(start: &Lent, lists: &[Vec<Turn>; 2], order: &[usize]) -> Left {
+    let mut outcome = Left {
         lent: start.clone(),
         results: [Vec::new(), Vec::new()],
     };
@@ -124,7 +123,7 @@ fn take_turn(lent: &mut Lent, turn: &Turn) -> (Answer, Vec<usize>) {
     let before = lent.processors;
     let answer = lent.request::<Reference>(turn.processor, &turn.request, &mut turn.buffer.clone());
     let named = match before.get(turn.processor as usize) {
-        Some(own) => units_named(lent.settings, own, &turn.request, answer.number),
+        Some(own) => units_named(lent.settings, own, &turn.request, &answer),
         None => Vec::new(),
     };
     (answer, named)
@@ -252,7 +251,7 @@ fn random_list(
             owners[*unit] == Owner::List(list) || owners[*unit] == Owner::Fetches && turn.is_fetch()
         });
         // Requests that name nothing are thinned out.
-        let useful = !named.is_empty() || answer.number == Number::Completed;
+        let useful = !named.is_empty() || answer.is_ok();
         if may && (useful || random.one_in(3)) {
             lent = next;
             turns.push(turn);
@@ -279,7 +278,7 @@ struct Seen {
 }
 
 impl Seen {
-    fn note(&mut self, lists: &[Vec<Turn>; 2], outcome: &Outcome, shared: usize, orders: usize) {
+    fn note(&mut self, lists: &[Vec<Turn>; 2], outcome: &Left, shared: usize, orders: usize) {
         self.pairs += 1;
         self.orders += orders as u64;
         self.shared_fetched_units += u64::from(shared > 0);
@@ -287,13 +286,14 @@ impl Seen {
         for (list, results) in lists.iter().zip(&outcome.results) {
             self.empty_lists += u64::from(list.is_empty());
             for (turn, (answer, _)) in list.iter().zip(results) {
-                let completed = answer.number == Number::Completed;
+                let completed = answer.is_ok();
+                let refused = |reason| support::outcome(*answer) == Err(reason);
                 self.requests += 1;
                 self.completed += u64::from(completed);
-                self.ended_with_4 += u64::from(answer.number == Number::Protection);
+                self.ended_with_4 += u64::from(refused(Reason::Protection));
                 self.wrong_processor_numbers += u64::from(turn.processor > 1);
-                refused_by[0] |= answer.number == Number::Configuration;
-                refused_by[1] |= answer.number == Number::Record && turn.processor < 2;
+                refused_by[0] |= refused(Reason::Configuration);
+                refused_by[1] |= refused(Reason::Record) && turn.processor < 2;
                 match turn.request {
                     Request::Key(_) => self.completed_key_instructions += u64::from(completed),
                     Request::Prefix(PrefixInstruction::SetPrefix { .. }) => {
@@ -366,7 +366,7 @@ fn orders_agree<U: Unit>() {
     seen.check();
 }
 
-fn compare(expected: &Outcome, outcome: &Outcome, seed: u64, order: &[usize]) {
+fn compare(expected: &Left, outcome: &Left, seed: u64, order: &[usize]) {
     for list in 0..2 {
         for (index, (one, other)) in expected.results[list]
             .iter()
@@ -443,11 +443,7 @@ fn stores_to_one_unit<U: Unit>() {
 fn fetch_and_reset_of_one_unit<U: Unit>() {
     orders_differ::<U>([
         vec![turn(0, Request::fetch(0, 1), &[0])],
-        vec![turn(
-            1,
-            Request::Key(KeyInstruction::Rrb { address: 4096 }),
-            &[],
-        )],
+        vec![turn(1, Request::rrb(4096), &[])],
     ]);
 }
 
@@ -456,11 +452,7 @@ fn fetch_and_reset_of_one_unit<U: Unit>() {
 fn fetch_and_insert_of_one_unit<U: Unit>() {
     orders_differ::<U>([
         vec![turn(0, Request::fetch(0, 1), &[0])],
-        vec![turn(
-            1,
-            Request::Key(KeyInstruction::Isk { r1: 0, r2: 4096 }),
-            &[],
-        )],
+        vec![turn(1, Request::isk(0, 4096), &[])],
     ]);
 }
 
@@ -488,7 +480,7 @@ fn fetches_of_one_unit<U: Unit>() {
 /// SET PREFIX in a list changes which units its later requests name.
 fn set_prefix_between_stores<U: Unit>() {
     let start = two_prefixes();
-    let set_prefix = |word| Request::Prefix(PrefixInstruction::SetPrefix { word });
+    let set_prefix = |word| Request::set_prefix(word);
     let lists = [
         vec![
             turn(0, Request::store(0, 1), &[1]),

@@ -17,12 +17,15 @@ use std::hint::black_box;
 use std::str::FromStr;
 use std::time::Instant;
 
-use storage_unit::boundary::{self, RawFetch, RawRequest, RawStore};
-use storage_unit::plain::{
+use storage_unit::boundary::{
+    self, RawFetch, RawRequest, RawStore, storage_unit_fetch, storage_unit_request,
+    storage_unit_store,
+};
+use storage_unit::{AccessKind, Processor, Request, Settings};
+use storage_unit_comparison::numbers::number;
+use storage_unit_comparison::plain::{
     self, storage_unit_fetch_plain, storage_unit_request_plain, storage_unit_store_plain,
 };
-use storage_unit::proved::{storage_unit_fetch, storage_unit_request, storage_unit_store};
-use storage_unit::{AccessKind, KeyInstruction, PrefixInstruction, Processor, Request, Settings};
 
 /// Storage and keys stay in the second-level cache, which shows the cost of the code.
 const STORAGE_LENGTH: u32 = 524_288;
@@ -58,7 +61,7 @@ enum Place {
 }
 
 /// A key instruction with its R1 and R2, or address.
-type Instruction = fn(u32, u32) -> KeyInstruction;
+type Instruction = fn(u32, u32) -> Request;
 
 /// A kind of request.
 #[derive(Clone, Copy)]
@@ -123,12 +126,10 @@ impl Row {
             Ask::Key(instruction) => {
                 let r1 = random.below(u32::MAX);
                 let block = random.below(STORAGE_LENGTH) & !0xF;
-                Request::Key(instruction(r1, block))
+                instruction(r1, block)
             }
-            Ask::SetPrefix => Request::Prefix(PrefixInstruction::SetPrefix {
-                word: random.below(STORAGE_LENGTH),
-            }),
-            Ask::StorePrefix => Request::Prefix(PrefixInstruction::StorePrefix),
+            Ask::SetPrefix => Request::set_prefix(random.below(STORAGE_LENGTH)),
+            Ask::StorePrefix => Request::store_prefix(),
         }
     }
 
@@ -214,12 +215,12 @@ fn refusals(rows: &mut Vec<Row>) {
 
 fn key_instructions(rows: &mut Vec<Row>) {
     let instructions: [(&str, Instruction); 6] = [
-        ("ISK", |r1, r2| KeyInstruction::Isk { r1, r2 }),
-        ("SSK", |r1, r2| KeyInstruction::Ssk { r1, r2 }),
-        ("RRB", |_, address| KeyInstruction::Rrb { address }),
-        ("ISKE", |r1, r2| KeyInstruction::Iske { r1, r2 }),
-        ("SSKE", |r1, r2| KeyInstruction::Sske { r1, r2 }),
-        ("RRBE", |_, r2| KeyInstruction::Rrbe { r2 }),
+        ("ISK", Request::isk),
+        ("SSK", Request::ssk),
+        ("RRB", |_, address| Request::rrb(address)),
+        ("ISKE", Request::iske),
+        ("SSKE", Request::sske),
+        ("RRBE", |_, r2| Request::rrbe(r2)),
     ];
     for four_k in [false, true] {
         for (name, instruction) in instructions {
@@ -450,7 +451,7 @@ fn plain_typed(machine: &mut Machine) -> Option<f64> {
                     &mut machine.buffer,
                 ),
             };
-            other += machine.unexpected(black_box(answer).number.code());
+            other += machine.unexpected(number(black_box(answer)));
         }
         other
     }))
@@ -562,7 +563,9 @@ fn main() {
             measure(row, rounds, count, &mut random, measured);
         }
     }
-    println!("| Request | request | plain | access | plain | plain typed | request / plain | access / plain | access / typed |");
+    println!(
+        "| Request | request | plain | access | plain | plain typed | request / plain | access / plain | access / typed |"
+    );
     println!("|---|---|---|---|---|---|---|---|---|");
     for (row, measured) in rows.iter().zip(&mut measured) {
         print_row(row, measured);

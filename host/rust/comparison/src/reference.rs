@@ -5,10 +5,12 @@
 //! absolute address, the key of its unit. It is written to be read beside
 //! the documents and the manual, not to be fast.
 
-use crate::{
-    AccessKind, Answer, KeyInstruction, Number, PrefixInstruction, Processor, Request,
-    RequestFunction, Rule, Settings, Unit,
+use storage_unit::{
+    AccessKind, Answer, KeyInstruction, PrefixInstruction, Processor, Reason, Refusal, Request,
+    Rule, Settings,
 };
+
+use crate::{completed, refused};
 
 /// The number of 24-bit addresses.
 const ADDRESSES_24: u32 = 16_777_216;
@@ -67,11 +69,7 @@ fn absolute_address(real: u32, prefix: u32) -> u32 {
 
 /// The number of bytes in a key unit.
 fn key_unit(settings: Settings) -> u32 {
-    if settings.four_k {
-        4096
-    } else {
-        2048
-    }
+    if settings.four_k { 4096 } else { 2048 }
 }
 
 /// The index of the key for an absolute address.
@@ -160,32 +158,28 @@ impl Situation<'_> {
 }
 
 /// A line of the table: the place if the line applies.
-type Line = fn(&Situation) -> Option<u16>;
+type Line = fn(&Situation) -> Option<u8>;
 
 /// The lines of the table that refuse a request, from top to bottom.
-const LINES: [(Number, Line); 9] = [
-    (Number::Configuration, line_64),
-    (Number::Record, line_65),
-    (Number::Operand, line_66),
-    (Number::Operation, line_1),
-    (Number::Privileged, line_2),
-    (Number::SpecialOperation, line_19),
-    (Number::Specification, line_6),
-    (Number::Addressing, line_5),
-    (Number::Protection, line_4),
+const LINES: [(Reason, Line); 9] = [
+    (Reason::Configuration, line_64),
+    (Reason::Record, line_65),
+    (Reason::Operand, line_66),
+    (Reason::Operation, line_1),
+    (Reason::Privileged, line_2),
+    (Reason::SpecialOperation, line_19),
+    (Reason::Specification, line_6),
+    (Reason::Addressing, line_5),
+    (Reason::Protection, line_4),
 ];
 
 /// Place 0 if the condition holds.
-fn place_0_if(condition: bool) -> Option<u16> {
-    if condition {
-        Some(0)
-    } else {
-        None
-    }
+fn place_0_if(condition: bool) -> Option<u8> {
+    if condition { Some(0) } else { None }
 }
 
 /// Storage length or key array length breaks the numbers.
-fn line_64(situation: &Situation) -> Option<u16> {
+fn line_64(situation: &Situation) -> Option<u8> {
     let length = situation.storage_length;
     let storage_good = length.is_multiple_of(4096) && (4096..=16_777_216).contains(&length);
     let keys_good = situation.keys.len() == length / key_unit(situation.settings) as usize;
@@ -193,7 +187,7 @@ fn line_64(situation: &Situation) -> Option<u16> {
 }
 
 /// The processor number is not 0 or 1, or that processor's own record is bad.
-fn line_65(situation: &Situation) -> Option<u16> {
+fn line_65(situation: &Situation) -> Option<u8> {
     if situation.processor_number != 0 && situation.processor_number != 1 {
         return Some(0);
     }
@@ -204,7 +198,7 @@ fn line_65(situation: &Situation) -> Option<u16> {
 }
 
 /// Access count, access or RRB address, or the buffer is bad.
-fn line_66(situation: &Situation) -> Option<u16> {
+fn line_66(situation: &Situation) -> Option<u8> {
     match *situation.request {
         Request::Access { address, count, .. } => place_0_if(
             count == 0
@@ -218,7 +212,7 @@ fn line_66(situation: &Situation) -> Option<u16> {
 }
 
 /// An extended instruction without the extensions.
-fn line_1(situation: &Situation) -> Option<u16> {
+fn line_1(situation: &Situation) -> Option<u8> {
     match situation.request {
         Request::Key(instruction) => {
             place_0_if(is_extended(instruction) && !situation.settings.extensions)
@@ -228,7 +222,7 @@ fn line_1(situation: &Situation) -> Option<u16> {
 }
 
 /// A key or prefix instruction in the problem state.
-fn line_2(situation: &Situation) -> Option<u16> {
+fn line_2(situation: &Situation) -> Option<u8> {
     match situation.request {
         Request::Key(_) | Request::Prefix(_) => place_0_if(situation.own().problem),
         Request::Access { .. } => None,
@@ -236,7 +230,7 @@ fn line_2(situation: &Situation) -> Option<u16> {
 }
 
 /// ISK, SSK or RRB with the 4K facility and bit 7 of control register 0 zero.
-fn line_19(situation: &Situation) -> Option<u16> {
+fn line_19(situation: &Situation) -> Option<u8> {
     match situation.request {
         Request::Key(instruction) => place_0_if(
             !is_extended(instruction) && situation.settings.four_k && !situation.own().key_control,
@@ -246,7 +240,7 @@ fn line_19(situation: &Situation) -> Option<u16> {
 }
 
 /// ISK or SSK with any of bits 28-31 of R2 on.
-fn line_6(situation: &Situation) -> Option<u16> {
+fn line_6(situation: &Situation) -> Option<u8> {
     match *situation.request {
         Request::Key(KeyInstruction::Isk { r2, .. } | KeyInstruction::Ssk { r2, .. }) => {
             place_0_if(bits(r2, 28, 31) != 0)
@@ -256,12 +250,12 @@ fn line_6(situation: &Situation) -> Option<u16> {
 }
 
 /// A real address, or the block SET PREFIX would install, lies outside storage.
-fn line_5(situation: &Situation) -> Option<u16> {
+fn line_5(situation: &Situation) -> Option<u8> {
     match *situation.request {
         Request::Access { address, count, .. } => {
             for offset in 0..count {
                 if situation.outside(real_address(address, offset)) {
-                    return Some(offset as u16);
+                    return Some(offset as u8);
                 }
             }
             None
@@ -277,7 +271,7 @@ fn line_5(situation: &Situation) -> Option<u16> {
 }
 
 /// A byte of an access is forbidden.
-fn line_4(situation: &Situation) -> Option<u16> {
+fn line_4(situation: &Situation) -> Option<u8> {
     match *situation.request {
         Request::Access {
             kind,
@@ -286,7 +280,7 @@ fn line_4(situation: &Situation) -> Option<u16> {
         } => {
             for offset in 0..count {
                 if situation.forbidden(kind, real_address(address, offset)) {
-                    return Some(offset as u16);
+                    return Some(offset as u8);
                 }
             }
             None
@@ -296,7 +290,7 @@ fn line_4(situation: &Situation) -> Option<u16> {
 }
 
 /// Carries out one request for one processor; the parameters are those of
-/// [`RequestFunction`].
+/// [`RequestFunction`](crate::RequestFunction).
 pub fn request(
     settings: Settings,
     storage: &mut [u8],
@@ -315,9 +309,9 @@ pub fn request(
         request,
         buffer_length: buffer.len(),
     };
-    for (number, line) in LINES {
+    for (reason, line) in LINES {
         if let Some(place) = line(&situation) {
-            return Answer::refused(number, place);
+            return refused(reason, place);
         }
     }
 
@@ -352,20 +346,20 @@ pub fn request(
                 }
             }
             // Byte 0 is the first address that it names.
-            Answer::completed(0, Some(prefix_rule(real_address(address, 0), own.prefix)))
+            completed(0, Some(prefix_rule(real_address(address, 0), own.prefix)))
         }
         Request::Key(ref instruction) => {
             // The block is the first address that it names.
             let rule = prefix_rule(designated_block(instruction), own.prefix);
             let word = complete_key_instruction(settings, keys, own, instruction);
-            Answer::completed(word, Some(rule))
+            completed(word, Some(rule))
         }
         Request::Prefix(PrefixInstruction::SetPrefix { word }) => {
             own.prefix = new_prefix(word);
-            Answer::completed(0, None)
+            completed(0, None)
         }
         Request::Prefix(PrefixInstruction::StorePrefix) => {
-            Answer::completed(bits(own.prefix, 8, 19) * 4096, None)
+            completed(bits(own.prefix, 8, 19) * 4096, None)
         }
     }
 }
@@ -434,7 +428,7 @@ fn without_reference(key: u8) -> u8 {
 }
 
 /// The units that a request names, in ascending order, given the record of its
-/// processor before the request and the number of its answer.
+/// processor before the request and its answer.
 ///
 /// An access that completes or ends with 4 names every unit in its range, a key
 /// instruction that completes names its one or two units, and every other request
@@ -443,17 +437,24 @@ pub fn units_named(
     settings: Settings,
     own: &Processor,
     request: &Request,
-    number: Number,
+    answer: &Answer,
 ) -> Vec<usize> {
     let mut units = Vec::new();
-    match (request, number) {
-        (&Request::Access { address, count, .. }, Number::Completed | Number::Protection) => {
+    match (request, answer) {
+        (
+            &Request::Access { address, count, .. },
+            Ok(_)
+            | Err(Refusal {
+                reason: Reason::Protection,
+                ..
+            }),
+        ) => {
             for offset in 0..count {
                 let absolute = absolute_address(real_address(address, offset), own.prefix);
                 units.push(unit_of(settings, absolute));
             }
         }
-        (Request::Key(instruction), Number::Completed) => {
+        (Request::Key(instruction), Ok(_)) => {
             let (low, high) = keys_of_instruction(settings, own.prefix, instruction);
             units.push(low);
             units.extend(high);
@@ -463,13 +464,4 @@ pub fn units_named(
     units.sort_unstable();
     units.dedup();
     units
-}
-
-/// The reference, for code that is written for any [`Unit`].
-#[derive(Clone, Copy, Debug)]
-pub struct Reference;
-
-impl Unit for Reference {
-    const NAME: &'static str = "reference";
-    const REQUEST: RequestFunction = request;
 }

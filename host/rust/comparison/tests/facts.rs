@@ -9,15 +9,16 @@
 
 mod support;
 
-use storage_unit::{Answer, KeyInstruction, Number, PrefixInstruction, Request, Rule, Unit};
+use storage_unit::{Reason, Request, Rule};
+use storage_unit_comparison::Unit;
 
 use support::cases::*;
-use support::Lent;
+use support::{COMPLETED, Lent, Outcome, outcome};
 
 /// A fetch of one byte gives the byte at this absolute address, and a store of one
 /// byte writes it there. Both record it in the key of that unit, and carry this rule.
 fn real_is_absolute<U: Unit>(before: &Lent, real: u32, absolute: usize, rule: Rule) {
-    let answer = Answer::completed(0, Some(rule));
+    let answer = storage_unit_comparison::completed(0, Some(rule));
     let mut after = before.clone();
     after.keys[absolute / 2048] |= 0x04;
     let (fetch, store) = (Request::fetch(real, 1), Request::store(real, 1));
@@ -57,7 +58,7 @@ fn p4<U: Unit>() {
         &with_keys(0x88, 3),
         Request::fetch(100, 4),
         &[0; 4],
-        Number::Protection,
+        Reason::Protection,
         0,
     );
 }
@@ -82,7 +83,7 @@ fn p6<U: Unit>() {
         &with_keys(0x80, 3),
         Request::store(100, 4),
         &new_bytes(4),
-        Number::Protection,
+        Reason::Protection,
         0,
     );
 }
@@ -109,7 +110,7 @@ fn p8<U: Unit>() {
         &with_two_keys(3),
         Request::store(2047, 2),
         &new_bytes(2),
-        Number::Protection,
+        Reason::Protection,
         1,
     );
 }
@@ -130,17 +131,14 @@ fn p10<U: Unit>() {
     let mut after = before.clone();
     after.keys[0] = 0x8A;
     after.processors[0].code = 3;
-    let request = Request::Key(KeyInstruction::Rrb { address: 0 });
+    let request = Request::rrb(0);
     completes::<U>(&before, request, &[], 0, &after);
 }
 
 /// ISK, R1 hex 12345678, key 8E: hex 1234568E.
 fn p11<U: Unit>() {
     let before = with_keys(0x8E, 0);
-    let request = Request::Key(KeyInstruction::Isk {
-        r1: 0x1234_5678,
-        r2: 0,
-    });
+    let request = Request::isk(0x1234_5678, 0);
     completes::<U>(&before, request, &[], 0x1234_568E, &before);
 }
 
@@ -148,7 +146,7 @@ fn p11<U: Unit>() {
 fn p12<U: Unit>() {
     let mut before = with_keys(0x84, 0);
     before.keys[1] = 0x52;
-    let request = Request::Key(KeyInstruction::Iske { r1: 0, r2: 0 });
+    let request = Request::iske(0, 0);
     completes::<U>(&before, request, &[], 0x86, &before);
 }
 
@@ -160,7 +158,7 @@ fn fact_13<U: Unit>() {
         &before,
         Request::store(511, 1),
         &[0xFF],
-        Number::Protection,
+        Reason::Protection,
         0,
     );
     let mut after = before.clone();
@@ -195,7 +193,7 @@ fn fact_15<U: Unit>() {
         &before,
         Request::fetch(65_535, 2),
         &[0; 2],
-        Number::Addressing,
+        Reason::Addressing,
         1,
     );
 }
@@ -208,7 +206,7 @@ fn fact_16<U: Unit>() {
         &before,
         Request::store(16_777_215, 2),
         &new_bytes(2),
-        Number::Protection,
+        Reason::Protection,
         1,
     );
 }
@@ -219,7 +217,7 @@ fn fact_17<U: Unit>() {
     let buffer = new_bytes(1000);
     for count in [0, 257] {
         for request in [Request::fetch(0, count), Request::store(0, count)] {
-            refused::<U>(&before, request, &buffer, Number::Operand, 0);
+            refused::<U>(&before, request, &buffer, Reason::Operand, 0);
         }
     }
 
@@ -239,9 +237,9 @@ fn fact_18<U: Unit>() {
     let before = usual();
     let mut after = before.clone();
     after.keys[1] = 0xFE;
-    let request = |r2| Request::Key(KeyInstruction::Ssk { r1: 0xFF, r2 });
+    let request = |r2| Request::ssk(0xFF, r2);
     completes::<U>(&before, request(0x800), &[], 0, &after);
-    refused::<U>(&before, request(0x801), &[], Number::Specification, 0);
+    refused::<U>(&before, request(0x801), &[], Reason::Specification, 0);
 }
 
 /// The state of facts 19 and 20: prefixes 0 and 4096.
@@ -275,7 +273,7 @@ fn fact_19<U: Unit>() {
             let mut buffer = [bytes[processor][turns[processor]]];
             turns[processor] += 1;
             let answer = lent.request::<U>(processor as u32, &Request::store(0, 1), &mut buffer);
-            let expected = Answer::completed(0, Some(Rule::Zero));
+            let expected = storage_unit_comparison::completed(0, Some(Rule::Zero));
             assert_eq!(answer, expected, "order {order:?}");
         }
         assert!(lent == after, "order {order:?}");
@@ -292,7 +290,8 @@ fn fact_20<U: Unit>() {
             let mut buffer = [[0xF0, 0xF1][processor]];
             let answer =
                 lent.request::<U>(processor as u32, &Request::store(address, 1), &mut buffer);
-            let expected = Answer::completed(0, Some([Rule::Zero, Rule::Prefix][processor]));
+            let expected =
+                storage_unit_comparison::completed(0, Some([Rule::Zero, Rule::Prefix][processor]));
             assert_eq!(answer, expected, "order {order:?}");
         }
         let mut after = with_two_prefixes();
@@ -309,7 +308,7 @@ fn w2<U: Unit>() {
     let mut after = before.clone();
     after.keys[0] = 0x80;
     after.processors[0].code = 3;
-    let request = Request::Key(KeyInstruction::Rrbe { r2: 0 });
+    let request = Request::rrbe(0);
     completes::<U>(&before, request, &[], 0, &after);
 }
 
@@ -320,47 +319,46 @@ fn w6_prefix_zero<U: Unit>() {
     real_is_absolute::<U>(&usual(), 4096, 4096, Rule::Unchanged);
 }
 
-/// W6: the rule of this answer, and its number.
-fn carries<U: Unit>(before: &Lent, request: Request, number: Number, rule: Option<Rule>) {
+/// W6: the rule of this answer, and whether it is completed or why it is refused.
+fn carries<U: Unit>(before: &Lent, request: Request, expected: Outcome, rule: Option<Rule>) {
     let given = before.clone().request::<U>(0, &request, &mut [0; 2]);
-    assert_eq!((given.number, given.rule), (number, rule), "{request:?}");
+    assert_eq!(outcome(given), expected, "{request:?}");
+    assert_eq!(
+        given.ok().and_then(|completed| completed.rule),
+        rule,
+        "{request:?}"
+    );
 }
 
 /// W6: an access carries the rule of its first byte, also where it goes on under
 /// another rule, or at 0.
 fn w6_first_byte<U: Unit>() {
-    let completed = Number::Completed;
     for (address, rule) in [
         (4095, Rule::Zero),
         (8191, Rule::Unchanged),
         (12_287, Rule::Prefix),
     ] {
         for request in [Request::fetch(address, 2), Request::store(address, 2)] {
-            carries::<U>(&with_prefix(8192), request, completed, Some(rule));
+            carries::<U>(&with_prefix(8192), request, COMPLETED, Some(rule));
         }
     }
     let mut before = with_storage(16_777_216);
     let last = Request::fetch(16_777_215, 2);
-    carries::<U>(&before, last, completed, Some(Rule::Unchanged));
+    carries::<U>(&before, last, COMPLETED, Some(Rule::Unchanged));
     before.processors[0].prefix = 16_777_216 - 4096;
-    carries::<U>(&before, last, completed, Some(Rule::Prefix));
+    carries::<U>(&before, last, COMPLETED, Some(Rule::Prefix));
 }
 
 /// W6: a key instruction carries the rule of its block, without the bits that it
 /// ignores.
 fn w6_block<U: Unit>() {
     let before = with_prefix(8192);
-    let basic = |r2| {
-        [
-            Request::Key(KeyInstruction::Isk { r1: 0, r2 }),
-            Request::Key(KeyInstruction::Ssk { r1: 0, r2 }),
-        ]
-    };
+    let basic = |r2| [Request::isk(0, r2), Request::ssk(0, r2)];
     let extended = |r2| {
         [
-            Request::Key(KeyInstruction::Iske { r1: 0, r2 }),
-            Request::Key(KeyInstruction::Sske { r1: 0, r2 }),
-            Request::Key(KeyInstruction::Rrbe { r2 }),
+            Request::iske(0, r2),
+            Request::sske(0, r2),
+            Request::rrbe(r2),
         ]
     };
     for (block, rule) in [
@@ -369,15 +367,13 @@ fn w6_block<U: Unit>() {
         (4096, Rule::Unchanged),
     ] {
         for request in basic(0xFF00_07F0 | block) {
-            carries::<U>(&before, request, Number::Completed, Some(rule));
+            carries::<U>(&before, request, COMPLETED, Some(rule));
         }
         for request in extended(0x8000_0FFF | block) {
-            carries::<U>(&before, request, Number::Completed, Some(rule));
+            carries::<U>(&before, request, COMPLETED, Some(rule));
         }
-        let rrb = Request::Key(KeyInstruction::Rrb {
-            address: block | 0xFFF,
-        });
-        carries::<U>(&before, rrb, Number::Completed, Some(rule));
+        let rrb = Request::rrb(block | 0xFFF);
+        carries::<U>(&before, rrb, COMPLETED, Some(rule));
     }
 }
 
@@ -385,18 +381,19 @@ fn w6_block<U: Unit>() {
 /// PREFIX and STORE PREFIX.
 fn w6_none<U: Unit>() {
     let mut before = with_prefix(8192);
-    carries::<U>(&before, Request::fetch(65_535, 2), Number::Addressing, None);
-    for instruction in [
-        PrefixInstruction::SetPrefix { word: 8192 },
-        PrefixInstruction::StorePrefix,
-    ] {
-        let request = Request::Prefix(instruction);
-        carries::<U>(&before, request, Number::Completed, None);
+    carries::<U>(
+        &before,
+        Request::fetch(65_535, 2),
+        Err(Reason::Addressing),
+        None,
+    );
+    for request in [Request::set_prefix(8192), Request::store_prefix()] {
+        carries::<U>(&before, request, COMPLETED, None);
     }
     before.processors[0].psw_key = 3;
     for address in [0, 4096, 8192] {
         let request = Request::store(address, 1);
-        carries::<U>(&before, request, Number::Protection, None);
+        carries::<U>(&before, request, Err(Reason::Protection), None);
     }
 }
 

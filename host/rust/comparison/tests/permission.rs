@@ -3,9 +3,11 @@
 
 mod support;
 
-use storage_unit::{Number, Request, Unit};
+use storage_unit::{Reason, Request};
+use storage_unit_comparison::Unit;
 
 use support::cases::*;
+use support::{COMPLETED, outcome};
 
 /// A line of "Summary of Protection Action", page 3-8 of the manual.
 struct Line {
@@ -62,7 +64,7 @@ fn printed() -> String {
 
 #[test]
 fn table_in_the_source() {
-    let source = include_str!("../../../crates/storage_key/src/lib.rt");
+    let source = include_str!("../../../../crates/storage_key/src/lib.rt");
     let begin = "const PERMISSIONS: [[u32; 16]; 2] = [\n";
     let (_, after) = source.split_once(begin).expect("the table");
     let (table, _) = after.split_once("\n];\n").expect("the end of the table");
@@ -83,13 +85,13 @@ fn each_pair_of_keys<U: Unit>() {
                 (Request::fetch(0, 1), line.fetch_permitted),
                 (Request::store(0, 1), line.store_permitted),
             ] {
-                let number = if permitted {
-                    Number::Completed
+                let expected = if permitted {
+                    COMPLETED
                 } else {
-                    Number::Protection
+                    Err(Reason::Protection)
                 };
                 let given = answer::<U>(&before, 0, request, 1);
-                assert_eq!(given.number, number, "{access_key} {key} {request:?}");
+                assert_eq!(outcome(given), expected, "{access_key} {key} {request:?}");
             }
         }
     }

@@ -1,64 +1,6 @@
-//! The proved unit, called in the static library: by one function for every request, and by
-//! two for fetch and store.
+//! Requests of a processor over storage, keys and records that the caller lends for the call.
 
-use crate::{boundary, Answer, Processor, Request, RequestFunction, Settings, Unit};
-
-extern "C" {
-    /// The C function of the static library for every request.
-    ///
-    /// # Safety
-    ///
-    /// As for every [`boundary::RawRequest`].
-    pub fn storage_unit_request(
-        settings: u32,
-        storage: *mut u8,
-        storage_length: usize,
-        keys: *mut u8,
-        keys_length: usize,
-        records: *mut u8,
-        records_length: usize,
-        processor_number: u32,
-        operation: u32,
-        first: u32,
-        second: u32,
-        buffer: *mut u8,
-        buffer_length: usize,
-    ) -> u64;
-
-    /// The C function of the static library that fetches.
-    ///
-    /// # Safety
-    ///
-    /// As for every [`boundary::RawFetch`].
-    pub fn storage_unit_fetch(
-        settings: u32,
-        storage: *const u8,
-        storage_length: usize,
-        keys: *mut u8,
-        keys_length: usize,
-        record: u64,
-        address: u32,
-        bytes: *mut u8,
-        count: usize,
-    ) -> u64;
-
-    /// The C function of the static library that stores.
-    ///
-    /// # Safety
-    ///
-    /// As for every [`boundary::RawStore`].
-    pub fn storage_unit_store(
-        settings: u32,
-        storage: *mut u8,
-        storage_length: usize,
-        keys: *mut u8,
-        keys_length: usize,
-        record: u64,
-        address: u32,
-        bytes: *const u8,
-        count: usize,
-    ) -> u64;
-}
+use crate::{Completed, Processor, Refusal, Request, Settings, boundary};
 
 /// Carries out one request for one processor.
 ///
@@ -69,15 +11,13 @@ extern "C" {
 /// many as its count, and keeps the rest; a store reads the first bytes and ignores
 /// the rest; the other requests do not use `buffer`, which can be empty.
 ///
-/// Values outside these limits are allowed and are answered with
-/// [`Number::Configuration`](crate::Number::Configuration),
-/// [`Number::Record`](crate::Number::Record) or
-/// [`Number::Operand`](crate::Number::Operand). With any number but
-/// [`Number::Completed`](crate::Number::Completed), nothing lent and neither
-/// record has changed.
+/// # Errors
+///
+/// The first [`Reason`](crate::Reason) that applies, with its place; nothing lent and neither
+/// record has changed. Values outside the limits above are allowed and are refused too.
 ///
 /// ```
-/// use storage_unit::{request, Number, Processor, Request, Settings};
+/// use storage_unit::{Processor, Reason, Refusal, Request, Settings, request};
 ///
 /// let settings = Settings { four_k: false, extensions: true };
 /// let mut storage = vec![0; 4096];
@@ -94,7 +34,7 @@ extern "C" {
 ///     &mut buffer,
 /// );
 /// // The third byte is the first one outside storage.
-/// assert_eq!((answer.number, answer.place), (Number::Addressing, 2));
+/// assert_eq!(answer, Err(Refusal { reason: Reason::Addressing, place: 2 }));
 /// assert_eq!(buffer, [7; 8]);
 /// ```
 #[inline]
@@ -106,11 +46,11 @@ pub fn request(
     processor_number: u32,
     request: &Request,
     buffer: &mut [u8],
-) -> Answer {
+) -> Result<Completed, Refusal> {
     // SAFETY: the static library has the function with this meaning.
     unsafe {
         boundary::call(
-            storage_unit_request,
+            boundary::storage_unit_request,
             settings,
             storage,
             keys,
@@ -122,20 +62,24 @@ pub fn request(
     }
 }
 
-/// Fetches as many bytes as `bytes` has from real address `address`, for the processor with
+/// Fetches as many bytes as `bytes` has from real address `address` on, for the processor with
 /// the record `own`: what [`request`] does with [`Request::fetch`], in less time.
 ///
+/// # Errors
+///
+/// As for [`request`].
+///
 /// ```
-/// use storage_unit::{fetch, Number, Processor, Settings};
+/// use storage_unit::{Processor, Refusal, Settings, fetch};
 ///
 /// let settings = Settings { four_k: false, extensions: true };
 /// let storage = vec![0x5A; 4096];
 /// let mut keys = vec![0; 2];
 /// let mut bytes = [0; 4];
-/// let answer = fetch(settings, &storage, &mut keys, &Processor::default(), 2046, &mut bytes);
-/// assert_eq!(answer.number, Number::Completed);
+/// fetch(settings, &storage, &mut keys, &Processor::default(), 2046, &mut bytes)?;
 /// assert_eq!(bytes, [0x5A; 4]);
 /// assert_eq!(keys, [0x04; 2]);
+/// # Ok::<(), Refusal>(())
 /// ```
 #[inline]
 pub fn fetch(
@@ -145,11 +89,11 @@ pub fn fetch(
     own: &Processor,
     address: u32,
     bytes: &mut [u8],
-) -> Answer {
+) -> Result<Completed, Refusal> {
     // SAFETY: the static library has the function with this meaning.
     unsafe {
         boundary::call_fetch(
-            storage_unit_fetch,
+            boundary::storage_unit_fetch,
             settings,
             storage,
             keys,
@@ -163,16 +107,20 @@ pub fn fetch(
 /// Stores the bytes of `bytes` from real address `address` on, for the processor with the
 /// record `own`: what [`request`] does with [`Request::store`], in less time.
 ///
+/// # Errors
+///
+/// As for [`request`].
+///
 /// ```
-/// use storage_unit::{store, Number, Processor, Settings};
+/// use storage_unit::{Processor, Refusal, Settings, store};
 ///
 /// let settings = Settings { four_k: false, extensions: true };
 /// let mut storage = vec![0; 4096];
 /// let mut keys = vec![0; 2];
-/// let answer = store(settings, &mut storage, &mut keys, &Processor::default(), 2046, b"ABCD");
-/// assert_eq!(answer.number, Number::Completed);
+/// store(settings, &mut storage, &mut keys, &Processor::default(), 2046, b"ABCD")?;
 /// assert_eq!(&storage[2046..2050], b"ABCD");
 /// assert_eq!(keys, [0x06; 2]);
+/// # Ok::<(), Refusal>(())
 /// ```
 #[inline]
 pub fn store(
@@ -182,11 +130,11 @@ pub fn store(
     own: &Processor,
     address: u32,
     bytes: &[u8],
-) -> Answer {
+) -> Result<Completed, Refusal> {
     // SAFETY: the static library has the function with this meaning.
     unsafe {
         boundary::call_store(
-            storage_unit_store,
+            boundary::storage_unit_store,
             settings,
             storage,
             keys,
@@ -195,13 +143,4 @@ pub fn store(
             bytes,
         )
     }
-}
-
-/// The proved unit, for code that is written for any [`Unit`].
-#[derive(Clone, Copy, Debug)]
-pub struct Proved;
-
-impl Unit for Proved {
-    const NAME: &'static str = "proved";
-    const REQUEST: RequestFunction = request;
 }

@@ -3,10 +3,13 @@
 //! It is written to be fast: early tests, each key unit of an access checked once, bytes
 //! copied as slices, and no value put together that is only taken apart again.
 
-use crate::{
-    boundary, AccessKind, Answer, KeyInstruction, Number, PrefixInstruction, Processor, Request,
-    RequestFunction, Rule, Settings, Unit,
+use storage_unit::boundary;
+use storage_unit::{
+    AccessKind, Answer, KeyInstruction, PrefixInstruction, Processor, Reason, Request, Rule,
+    Settings,
 };
+
+use crate::numbers::{decode_settings, encode_answer};
 
 const PAGE_OFFSET: u32 = 0xFFF;
 const MAXIMUM_STORAGE: usize = 1 << 24;
@@ -24,30 +27,30 @@ const LOW_END: u32 = 512;
 /// What a request gives: an [`Answer`], or the number that the C functions give.
 trait Reply {
     fn completed(word: u32, rule: Option<Rule>) -> Self;
-    fn refused(number: Number, place: u16) -> Self;
+    fn refused(reason: Reason, place: u8) -> Self;
 }
 
 impl Reply for Answer {
     #[inline]
     fn completed(word: u32, rule: Option<Rule>) -> Self {
-        Answer::completed(word, rule)
+        crate::completed(word, rule)
     }
 
     #[inline]
-    fn refused(number: Number, place: u16) -> Self {
-        Answer::refused(number, place)
+    fn refused(reason: Reason, place: u8) -> Self {
+        crate::refused(reason, place)
     }
 }
 
 impl Reply for u64 {
     #[inline]
     fn completed(word: u32, rule: Option<Rule>) -> Self {
-        boundary::encode_answer(Answer::completed(word, rule))
+        encode_answer(crate::completed(word, rule))
     }
 
     #[inline]
-    fn refused(number: Number, place: u16) -> Self {
-        boundary::encode_answer(Answer::refused(number, place))
+    fn refused(reason: Reason, place: u8) -> Self {
+        encode_answer(crate::refused(reason, place))
     }
 }
 
@@ -188,11 +191,7 @@ const FOUR_K: u32 = 12;
 
 #[inline(always)]
 fn unit_shift(settings: Settings) -> u32 {
-    if settings.four_k {
-        FOUR_K
-    } else {
-        TWO_K
-    }
+    if settings.four_k { FOUR_K } else { TWO_K }
 }
 
 /// Whether the length of the storage or of the keys is wrong.
@@ -202,25 +201,25 @@ fn lengths_wrong(shift: u32, length: usize, key_count: usize) -> bool {
     length.wrapping_sub(4096) & !(MAXIMUM_STORAGE - 4096) != 0 || key_count != length >> shift
 }
 
-/// The first number that refuses an access before its keys are looked at, with its place.
+/// The first reason that refuses an access before its keys are looked at, with its place.
 #[inline(always)]
-fn access_refused(length: usize, address: u32, count: usize) -> Option<(Number, usize)> {
+fn access_refused(length: usize, address: u32, count: usize) -> Option<(Reason, usize)> {
     if count == 0 || count > 256 {
-        return Some((Number::Operand, 0));
+        return Some((Reason::Operand, 0));
     }
     let start = address as usize;
     if start + count <= length {
         return None;
     }
     if address > ADDRESS_MASK {
-        return Some((Number::Operand, 0));
+        return Some((Reason::Operand, 0));
     }
     if start >= length {
-        return Some((Number::Addressing, 0));
+        return Some((Reason::Addressing, 0));
     }
     // Past the end of a storage of the full size an access goes on at address 0.
     if length < MAXIMUM_STORAGE {
-        return Some((Number::Addressing, length - start));
+        return Some((Reason::Addressing, length - start));
     }
     None
 }
@@ -251,8 +250,8 @@ fn fetch_from<P: Record>(
     address: u32,
     bytes: &mut [u8],
 ) -> P::Reply {
-    if let Some((number, place)) = access_refused(storage.len(), address, bytes.len()) {
-        return P::Reply::refused(number, place as u16);
+    if let Some((reason, place)) = access_refused(storage.len(), address, bytes.len()) {
+        return P::Reply::refused(reason, place as u8);
     }
     if bytes.len() > room(shift, address) {
         return fetch_from_two(shift, storage, keys, own, address, bytes);
@@ -260,7 +259,7 @@ fn fetch_from<P: Record>(
     let (start, rule) = prefixed(address, own.prefix());
     let key = &mut keys[start >> shift];
     if !may_fetch(own, *key) {
-        return P::Reply::refused(Number::Protection, 0);
+        return P::Reply::refused(Reason::Protection, 0);
     }
     *key = *key & !UNUSED | REFERENCE;
     bytes.copy_from_slice(&storage[start..start + bytes.len()]);
@@ -282,10 +281,10 @@ fn fetch_from_two<P: Record>(
     let (second, _) = prefixed((address + room as u32) & ADDRESS_MASK, own.prefix());
     let units = [start >> shift, second >> shift];
     if !may_fetch(own, keys[units[0]]) {
-        return P::Reply::refused(Number::Protection, 0);
+        return P::Reply::refused(Reason::Protection, 0);
     }
     if !may_fetch(own, keys[units[1]]) {
-        return P::Reply::refused(Number::Protection, room as u16);
+        return P::Reply::refused(Reason::Protection, room as u8);
     }
     for unit in units {
         keys[unit] = keys[unit] & !UNUSED | REFERENCE;
@@ -306,8 +305,8 @@ fn store_to<P: Record>(
     address: u32,
     bytes: &[u8],
 ) -> P::Reply {
-    if let Some((number, place)) = access_refused(storage.len(), address, bytes.len()) {
-        return P::Reply::refused(number, place as u16);
+    if let Some((reason, place)) = access_refused(storage.len(), address, bytes.len()) {
+        return P::Reply::refused(reason, place as u8);
     }
     if bytes.len() > room(shift, address) {
         return store_to_two(shift, storage, keys, own, address, bytes);
@@ -315,7 +314,7 @@ fn store_to<P: Record>(
     let (start, rule) = prefixed(address, own.prefix());
     let key = &mut keys[start >> shift];
     if !may_store(own, address, *key) {
-        return P::Reply::refused(Number::Protection, 0);
+        return P::Reply::refused(Reason::Protection, 0);
     }
     *key = *key & !UNUSED | REFERENCE | CHANGE;
     storage[start..start + bytes.len()].copy_from_slice(bytes);
@@ -338,10 +337,10 @@ fn store_to_two<P: Record>(
     let (second, _) = prefixed(next, own.prefix());
     let units = [start >> shift, second >> shift];
     if !may_store(own, address, keys[units[0]]) {
-        return P::Reply::refused(Number::Protection, 0);
+        return P::Reply::refused(Reason::Protection, 0);
     }
     if !may_store(own, next, keys[units[1]]) {
-        return P::Reply::refused(Number::Protection, room as u16);
+        return P::Reply::refused(Reason::Protection, room as u8);
     }
     for unit in units {
         keys[unit] = keys[unit] & !UNUSED | REFERENCE | CHANGE;
@@ -365,7 +364,7 @@ fn access<P: Record>(
     buffer: &mut [u8],
 ) -> P::Reply {
     let Some(bytes) = buffer.get_mut(..count as usize) else {
-        return P::Reply::refused(Number::Operand, 0);
+        return P::Reply::refused(Reason::Operand, 0);
     };
     match kind {
         AccessKind::Fetch => fetch_from(shift, storage, keys, own, address, bytes),
@@ -382,21 +381,21 @@ struct KeyArray<'a> {
 }
 
 /// The real address of the block that a key instruction designates, and whether the block
-/// has two keys; or the number that refuses the instruction.
+/// has two keys; or the reason that refuses the instruction.
 #[inline(always)]
 fn block(
     shift: u32,
     with: &KeyArray,
     own: &impl Record,
     instruction: KeyInstruction,
-) -> Result<(u32, bool), Number> {
+) -> Result<(u32, bool), Reason> {
     let (real, extended, low_bits) = match instruction {
         KeyInstruction::Isk { r2, .. } | KeyInstruction::Ssk { r2, .. } => {
             (r2 & ADDRESS_MASK, false, r2 & 0xF)
         }
         KeyInstruction::Rrb { address } => {
             if address > ADDRESS_MASK {
-                return Err(Number::Operand);
+                return Err(Reason::Operand);
             }
             (address, false, 0)
         }
@@ -405,19 +404,19 @@ fn block(
         | KeyInstruction::Rrbe { r2 } => (r2 & PAGE_MASK, true, 0),
     };
     if extended && !with.extensions {
-        return Err(Number::Operation);
+        return Err(Reason::Operation);
     }
     if own.problem() {
-        return Err(Number::Privileged);
+        return Err(Reason::Privileged);
     }
     if !extended && shift == FOUR_K && !own.key_control() {
-        return Err(Number::SpecialOperation);
+        return Err(Reason::SpecialOperation);
     }
     if low_bits != 0 {
-        return Err(Number::Specification);
+        return Err(Reason::Specification);
     }
     if real as usize >= with.length {
-        return Err(Number::Addressing);
+        return Err(Reason::Addressing);
     }
     Ok((real, extended && shift == TWO_K))
 }
@@ -432,7 +431,7 @@ fn key_instruction<P: Record>(
 ) -> P::Reply {
     let (real, two) = match block(shift, &with, own, instruction) {
         Ok(found) => found,
-        Err(number) => return P::Reply::refused(number, 0),
+        Err(reason) => return P::Reply::refused(reason, 0),
     };
     let (absolute, rule) = prefixed(real, own.prefix());
     let unit = absolute >> shift;
@@ -467,13 +466,13 @@ fn prefix_instruction<P: Record>(
     instruction: PrefixInstruction,
 ) -> P::Reply {
     if own.problem() {
-        return P::Reply::refused(Number::Privileged, 0);
+        return P::Reply::refused(Reason::Privileged, 0);
     }
     match instruction {
         PrefixInstruction::SetPrefix { word } => {
             let prefix = word & ADDRESS_MASK & !PAGE_OFFSET;
             if prefix as usize >= length {
-                return P::Reply::refused(Number::Addressing, 0);
+                return P::Reply::refused(Reason::Addressing, 0);
             }
             own.set_prefix(prefix);
             P::Reply::completed(0, None)
@@ -483,7 +482,7 @@ fn prefix_instruction<P: Record>(
 }
 
 /// Carries out one request for one processor; the parameters are those of
-/// [`RequestFunction`].
+/// [`RequestFunction`](crate::RequestFunction).
 #[inline(never)]
 pub fn request(
     settings: Settings,
@@ -496,11 +495,11 @@ pub fn request(
 ) -> Answer {
     let shift = unit_shift(settings);
     if lengths_wrong(shift, storage.len(), keys.len()) {
-        return Answer::refused(Number::Configuration, 0);
+        return crate::refused(Reason::Configuration, 0);
     }
     let own = match processors.get_mut(processor_number as usize) {
         Some(own) if !own.is_wrong(storage.len()) => own,
-        _ => return Answer::refused(Number::Record, 0),
+        _ => return crate::refused(Reason::Record, 0),
     };
     match *request {
         Request::Access {
@@ -532,10 +531,10 @@ fn fetch_in<P: Record>(
 ) -> P::Reply {
     let shift = unit_shift(settings);
     if lengths_wrong(shift, storage.len(), keys.len()) {
-        return P::Reply::refused(Number::Configuration, 0);
+        return P::Reply::refused(Reason::Configuration, 0);
     }
     if own.is_wrong(storage.len()) {
-        return P::Reply::refused(Number::Record, 0);
+        return P::Reply::refused(Reason::Record, 0);
     }
     fetch_from(shift, storage, keys, own, address, bytes)
 }
@@ -552,10 +551,10 @@ fn store_in<P: Record>(
 ) -> P::Reply {
     let shift = unit_shift(settings);
     if lengths_wrong(shift, storage.len(), keys.len()) {
-        return P::Reply::refused(Number::Configuration, 0);
+        return P::Reply::refused(Reason::Configuration, 0);
     }
     if own.is_wrong(storage.len()) {
-        return P::Reply::refused(Number::Record, 0);
+        return P::Reply::refused(Reason::Record, 0);
     }
     store_to(shift, storage, keys, own, address, bytes)
 }
@@ -615,14 +614,14 @@ fn request_by_numbers(
     let shift = unit_shift(settings);
     let length = storage.len();
     if lengths_wrong(shift, length, keys.len()) {
-        return u64::refused(Number::Configuration, 0);
+        return u64::refused(Reason::Configuration, 0);
     }
     let Some(record) = record_of(records, processor_number) else {
-        return u64::refused(Number::Record, 0);
+        return u64::refused(Reason::Record, 0);
     };
     let own = u64::from_le_bytes(*record);
     if own.is_wrong(length) {
-        return u64::refused(Number::Record, 0);
+        return u64::refused(Reason::Record, 0);
     }
     let kind = match operation {
         boundary::FETCH => AccessKind::Fetch,
@@ -663,7 +662,7 @@ fn instruction_by_numbers(
             prefix_instruction(length, &mut own, Prefix::SetPrefix { word: first })
         }
         boundary::STORE_PREFIX => return prefix_instruction(length, &mut own, Prefix::StorePrefix),
-        _ => return u64::refused(Number::Operand, 0),
+        _ => return u64::refused(Reason::Operand, 0),
     };
     // All eight bytes at once, so that the next request can read them at once.
     *record = own.to_le_bytes();
@@ -677,7 +676,7 @@ fn instruction_by_numbers(
 /// # Safety
 ///
 /// As for every [`boundary::RawRequest`].
-#[no_mangle]
+#[unsafe(no_mangle)]
 #[inline(never)]
 #[allow(clippy::too_many_arguments)]
 pub unsafe extern "C" fn storage_unit_request_plain(
@@ -704,8 +703,8 @@ pub unsafe extern "C" fn storage_unit_request_plain(
             lent(buffer, buffer_length),
         )
     };
-    let Some(settings) = boundary::decode_settings(settings) else {
-        return u64::refused(Number::Configuration, 0);
+    let Some(settings) = decode_settings(settings) else {
+        return u64::refused(Reason::Configuration, 0);
     };
     let numbers = (operation, first, second);
     request_by_numbers(
@@ -724,7 +723,7 @@ pub unsafe extern "C" fn storage_unit_request_plain(
 /// # Safety
 ///
 /// As for every [`boundary::RawFetch`].
-#[no_mangle]
+#[unsafe(no_mangle)]
 #[inline(never)]
 #[allow(clippy::too_many_arguments)]
 pub unsafe extern "C" fn storage_unit_fetch_plain(
@@ -746,8 +745,8 @@ pub unsafe extern "C" fn storage_unit_fetch_plain(
             lent(bytes, count),
         )
     };
-    let Some(settings) = boundary::decode_settings(settings) else {
-        return u64::refused(Number::Configuration, 0);
+    let Some(settings) = decode_settings(settings) else {
+        return u64::refused(Reason::Configuration, 0);
     };
     fetch_in(settings, storage, keys, &record, address, bytes)
 }
@@ -757,7 +756,7 @@ pub unsafe extern "C" fn storage_unit_fetch_plain(
 /// # Safety
 ///
 /// As for every [`boundary::RawStore`].
-#[no_mangle]
+#[unsafe(no_mangle)]
 #[inline(never)]
 #[allow(clippy::too_many_arguments)]
 pub unsafe extern "C" fn storage_unit_store_plain(
@@ -779,8 +778,8 @@ pub unsafe extern "C" fn storage_unit_store_plain(
             read_only(bytes, count),
         )
     };
-    let Some(settings) = boundary::decode_settings(settings) else {
-        return u64::refused(Number::Configuration, 0);
+    let Some(settings) = decode_settings(settings) else {
+        return u64::refused(Reason::Configuration, 0);
     };
     store_in(settings, storage, keys, &record, address, bytes)
 }
@@ -811,48 +810,4 @@ unsafe fn read_only<'a>(pointer: *const u8, length: usize) -> &'a [u8] {
     }
     // SAFETY: the caller guarantees it.
     unsafe { std::slice::from_raw_parts(pointer, length) }
-}
-
-/// The plain implementation, for code that is written for any [`Unit`].
-#[derive(Clone, Copy, Debug)]
-pub struct Plain;
-
-impl Unit for Plain {
-    const NAME: &'static str = "plain";
-    const REQUEST: RequestFunction = request;
-}
-
-/// Carries out one request as [`request`] does, through [`storage_unit_request_plain`].
-#[inline]
-pub fn request_behind_boundary(
-    settings: Settings,
-    storage: &mut [u8],
-    keys: &mut [u8],
-    processors: &mut [Processor; 2],
-    processor_number: u32,
-    request: &Request,
-    buffer: &mut [u8],
-) -> Answer {
-    // SAFETY: the function keeps to the bytes it is given.
-    unsafe {
-        boundary::call(
-            storage_unit_request_plain,
-            settings,
-            storage,
-            keys,
-            processors,
-            processor_number,
-            request,
-            buffer,
-        )
-    }
-}
-
-/// The plain implementation called through [`storage_unit_request_plain`].
-#[derive(Clone, Copy, Debug)]
-pub struct PlainBehindBoundary;
-
-impl Unit for PlainBehindBoundary {
-    const NAME: &'static str = "plain behind the C boundary";
-    const REQUEST: RequestFunction = request_behind_boundary;
 }

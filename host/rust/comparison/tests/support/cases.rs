@@ -1,8 +1,9 @@
 //! Written cases: a state before, a request, and the whole outcome.
 
-use storage_unit::{Answer, Number, Processor, Request, Settings, Unit};
+use storage_unit::{Answer, Processor, Reason, Request, Settings};
+use storage_unit_comparison::{self as comparison, Unit};
 
-use super::{rule_carried, Lent};
+use super::{Lent, rule_carried};
 
 /// The state that the cases start from: storage 65,536, 2K units, extensions present,
 /// prefix 0, PSW key 0, zero keys, supervisor state, low-address protection off. The
@@ -58,7 +59,7 @@ pub fn expect<U: Unit>(
 
 /// The answer to a request of processor 0 that completes with this word.
 pub fn completed(before: &Lent, request: Request, word: u32) -> Answer {
-    Answer::completed(word, rule_carried(&request, before.processors[0].prefix))
+    comparison::completed(word, rule_carried(&request, before.processors[0].prefix))
 }
 
 /// The request completes with this word and leaves its buffer.
@@ -80,18 +81,12 @@ pub fn fetches<U: Unit>(
 }
 
 /// The request is refused, and nothing changes.
-pub fn refused<U: Unit>(
-    before: &Lent,
-    request: Request,
-    buffer: &[u8],
-    number: Number,
-    place: u16,
-) {
+pub fn refused<U: Unit>(before: &Lent, request: Request, buffer: &[u8], reason: Reason, place: u8) {
     expect::<U>(
         before,
         request,
         buffer,
-        Answer::refused(number, place),
+        comparison::refused(reason, place),
         buffer,
         before,
     );
@@ -125,14 +120,24 @@ macro_rules! for_each_unit {
         }
     };
     ($($case:ident)*) => {
-        for_each_unit!(@module reference, storage_unit::reference::Reference: $($case)*);
-        for_each_unit!(@module plain, storage_unit::plain::Plain: $($case)*);
+        for_each_unit!(@module reference, storage_unit_comparison::units::Reference: $($case)*);
+        for_each_unit!(@module plain, storage_unit_comparison::units::Plain: $($case)*);
         for_each_unit!(
             @module plain_behind_boundary,
-            storage_unit::plain::PlainBehindBoundary: $($case)*
+            storage_unit_comparison::units::PlainBehindBoundary: $($case)*
         );
-        for_each_unit!(@module plain_short_way, $crate::support::short_way::PlainShortWay: $($case)*);
-        for_each_unit!(@module proved, storage_unit::proved::Proved: $($case)*);
-        for_each_unit!(@module proved_short_way, $crate::support::short_way::ProvedShortWay: $($case)*);
+        for_each_unit!(
+            @module plain_short_way,
+            storage_unit_comparison::units::PlainShortWay: $($case)*
+        );
+        for_each_unit!(@module proved, storage_unit_comparison::units::Proved: $($case)*);
+        for_each_unit!(
+            @module proved_short_way,
+            storage_unit_comparison::units::ProvedShortWay: $($case)*
+        );
+        for_each_unit!(
+            @module proved_machine,
+            storage_unit_comparison::units::ProvedMachine: $($case)*
+        );
     };
 }

@@ -3,40 +3,11 @@
 
 mod support;
 
-use storage_unit::{Answer, KeyInstruction, Number, PrefixInstruction, Request, Settings, Unit};
+use storage_unit::{KeyInstruction, PrefixInstruction, Reason, Request, Settings};
+use storage_unit_comparison::{self as comparison, Unit};
 
 use support::cases::*;
-use support::Lent;
-
-fn isk(r1: u32, r2: u32) -> Request {
-    Request::Key(KeyInstruction::Isk { r1, r2 })
-}
-
-fn ssk(r1: u32, r2: u32) -> Request {
-    Request::Key(KeyInstruction::Ssk { r1, r2 })
-}
-
-fn rrb(address: u32) -> Request {
-    Request::Key(KeyInstruction::Rrb { address })
-}
-
-fn iske(r1: u32, r2: u32) -> Request {
-    Request::Key(KeyInstruction::Iske { r1, r2 })
-}
-
-fn sske(r1: u32, r2: u32) -> Request {
-    Request::Key(KeyInstruction::Sske { r1, r2 })
-}
-
-fn rrbe(r2: u32) -> Request {
-    Request::Key(KeyInstruction::Rrbe { r2 })
-}
-
-fn set_prefix(word: u32) -> Request {
-    Request::Prefix(PrefixInstruction::SetPrefix { word })
-}
-
-const STORE_PREFIX: Request = Request::Prefix(PrefixInstruction::StorePrefix);
+use support::{COMPLETED, Lent, Outcome, outcome};
 
 /// One request of each operation that completes in the usual state with a buffer of
 /// four bytes.
@@ -44,14 +15,14 @@ fn one_of_each() -> [Request; 10] {
     [
         Request::fetch(0, 4),
         Request::store(0, 4),
-        isk(0, 0),
-        ssk(0, 0),
-        rrb(0),
-        iske(0, 0),
-        sske(0, 0),
-        rrbe(0),
-        set_prefix(4096),
-        STORE_PREFIX,
+        Request::isk(0, 0),
+        Request::ssk(0, 0),
+        Request::rrb(0),
+        Request::iske(0, 0),
+        Request::sske(0, 0),
+        Request::rrbe(0),
+        Request::set_prefix(4096),
+        Request::store_prefix(),
     ]
 }
 
@@ -63,16 +34,13 @@ fn with_4k_units() -> Lent {
     lent
 }
 
-/// Expects this number with place 0 for each step. A state with many faults loses one
-/// fault in each step.
-fn falls_through<U: Unit>(steps: &[(Lent, Request, usize, Number)]) {
-    for (index, (before, request, buffer, number)) in steps.iter().enumerate() {
+/// Expects this outcome, with place 0 where it is refused, for each step. A state with many
+/// faults loses one fault in each step.
+fn falls_through<U: Unit>(steps: &[(Lent, Request, usize, Outcome)]) {
+    for (index, (before, request, buffer, expected)) in steps.iter().enumerate() {
         let given = answer::<U>(before, 0, *request, *buffer);
-        assert_eq!(
-            (given.number, given.place),
-            (*number, 0),
-            "step {index}: {request:?}"
-        );
+        assert_eq!(outcome(given), *expected, "step {index}: {request:?}");
+        assert!(given.err().is_none_or(|refusal| refusal.place == 0));
     }
 }
 
@@ -117,16 +85,21 @@ fn order_of_lines_for_accesses<U: Unit>() {
                 bad_lengths.clone(),
                 kind(16_777_216, 0),
                 0,
-                Number::Configuration,
+                Err(Reason::Configuration),
             ),
-            (bad_record.clone(), kind(16_777_216, 0), 0, Number::Record),
-            (locked.clone(), kind(16_777_216, 4), 4, Number::Operand),
-            (locked.clone(), kind(65_536, 0), 4, Number::Operand),
-            (locked.clone(), kind(65_536, 257), 300, Number::Operand),
-            (locked.clone(), kind(65_536, 4), 3, Number::Operand),
-            (locked.clone(), kind(65_536, 4), 4, Number::Addressing),
-            (locked.clone(), kind(600, 4), 4, Number::Protection),
-            (unlocked.clone(), kind(600, 4), 4, Number::Completed),
+            (
+                bad_record.clone(),
+                kind(16_777_216, 0),
+                0,
+                Err(Reason::Record),
+            ),
+            (locked.clone(), kind(16_777_216, 4), 4, Err(Reason::Operand)),
+            (locked.clone(), kind(65_536, 0), 4, Err(Reason::Operand)),
+            (locked.clone(), kind(65_536, 257), 300, Err(Reason::Operand)),
+            (locked.clone(), kind(65_536, 4), 3, Err(Reason::Operand)),
+            (locked.clone(), kind(65_536, 4), 4, Err(Reason::Addressing)),
+            (locked.clone(), kind(600, 4), 4, Err(Reason::Protection)),
+            (unlocked.clone(), kind(600, 4), 4, COMPLETED),
         ]);
     }
 }
@@ -136,33 +109,48 @@ fn order_of_lines_for_isk_and_ssk<U: Unit>() {
         four_k: true,
         extensions: false,
     };
-    let [bad_lengths, bad_record, in_problem_state, without_control, right] =
-        faulty_states(settings);
-    for instruction in [isk, ssk] {
+    let [
+        bad_lengths,
+        bad_record,
+        in_problem_state,
+        without_control,
+        right,
+    ] = faulty_states(settings);
+    for instruction in [Request::isk, Request::ssk] {
         let outside_and_odd = instruction(0, 65_537);
         falls_through::<U>(&[
             (
                 bad_lengths.clone(),
                 outside_and_odd,
                 0,
-                Number::Configuration,
+                Err(Reason::Configuration),
             ),
-            (bad_record.clone(), outside_and_odd, 0, Number::Record),
+            (bad_record.clone(), outside_and_odd, 0, Err(Reason::Record)),
             (
                 in_problem_state.clone(),
                 outside_and_odd,
                 0,
-                Number::Privileged,
+                Err(Reason::Privileged),
             ),
             (
                 without_control.clone(),
                 outside_and_odd,
                 0,
-                Number::SpecialOperation,
+                Err(Reason::SpecialOperation),
             ),
-            (right.clone(), outside_and_odd, 0, Number::Specification),
-            (right.clone(), instruction(0, 65_536), 0, Number::Addressing),
-            (right.clone(), instruction(0, 0), 0, Number::Completed),
+            (
+                right.clone(),
+                outside_and_odd,
+                0,
+                Err(Reason::Specification),
+            ),
+            (
+                right.clone(),
+                instruction(0, 65_536),
+                0,
+                Err(Reason::Addressing),
+            ),
+            (right.clone(), instruction(0, 0), 0, COMPLETED),
         ]);
     }
 }
@@ -172,21 +160,46 @@ fn order_of_lines_for_rrb<U: Unit>() {
         four_k: true,
         extensions: false,
     };
-    let [bad_lengths, bad_record, in_problem_state, without_control, right] =
-        faulty_states(settings);
+    let [
+        bad_lengths,
+        bad_record,
+        in_problem_state,
+        without_control,
+        right,
+    ] = faulty_states(settings);
     falls_through::<U>(&[
-        (bad_lengths, rrb(16_777_216), 0, Number::Configuration),
-        (bad_record, rrb(16_777_216), 0, Number::Record),
+        (
+            bad_lengths,
+            Request::rrb(16_777_216),
+            0,
+            Err(Reason::Configuration),
+        ),
+        (bad_record, Request::rrb(16_777_216), 0, Err(Reason::Record)),
         (
             in_problem_state.clone(),
-            rrb(16_777_216),
+            Request::rrb(16_777_216),
             0,
-            Number::Operand,
+            Err(Reason::Operand),
         ),
-        (in_problem_state, rrb(65_551), 0, Number::Privileged),
-        (without_control, rrb(65_551), 0, Number::SpecialOperation),
-        (right.clone(), rrb(65_551), 0, Number::Addressing),
-        (right, rrb(15), 0, Number::Completed),
+        (
+            in_problem_state,
+            Request::rrb(65_551),
+            0,
+            Err(Reason::Privileged),
+        ),
+        (
+            without_control,
+            Request::rrb(65_551),
+            0,
+            Err(Reason::SpecialOperation),
+        ),
+        (
+            right.clone(),
+            Request::rrb(65_551),
+            0,
+            Err(Reason::Addressing),
+        ),
+        (right, Request::rrb(15), 0, COMPLETED),
     ]);
 }
 
@@ -195,11 +208,17 @@ fn order_of_lines_for_extended_instructions<U: Unit>() {
         four_k: true,
         extensions: true,
     };
-    let [bad_lengths, bad_record, in_problem_state, without_control, _] = faulty_states(settings);
+    let [
+        bad_lengths,
+        bad_record,
+        in_problem_state,
+        without_control,
+        _,
+    ] = faulty_states(settings);
     for (outside, inside) in [
-        (iske(0, 65_536), iske(0, 15)),
-        (sske(0, 65_536), sske(0, 15)),
-        (rrbe(65_536), rrbe(15)),
+        (Request::iske(0, 65_536), Request::iske(0, 15)),
+        (Request::sske(0, 65_536), Request::sske(0, 15)),
+        (Request::rrbe(65_536), Request::rrbe(15)),
     ] {
         let without_extensions = |lent: &Lent| {
             let mut lent = lent.clone();
@@ -211,18 +230,28 @@ fn order_of_lines_for_extended_instructions<U: Unit>() {
                 without_extensions(&bad_lengths),
                 outside,
                 0,
-                Number::Configuration,
+                Err(Reason::Configuration),
             ),
-            (without_extensions(&bad_record), outside, 0, Number::Record),
+            (
+                without_extensions(&bad_record),
+                outside,
+                0,
+                Err(Reason::Record),
+            ),
             (
                 without_extensions(&in_problem_state),
                 outside,
                 0,
-                Number::Operation,
+                Err(Reason::Operation),
             ),
-            (in_problem_state.clone(), outside, 0, Number::Privileged),
-            (without_control.clone(), outside, 0, Number::Addressing),
-            (without_control.clone(), inside, 0, Number::Completed),
+            (
+                in_problem_state.clone(),
+                outside,
+                0,
+                Err(Reason::Privileged),
+            ),
+            (without_control.clone(), outside, 0, Err(Reason::Addressing)),
+            (without_control.clone(), inside, 0, COMPLETED),
         ]);
     }
 }
@@ -232,37 +261,58 @@ fn order_of_lines_for_prefix_instructions<U: Unit>() {
         four_k: true,
         extensions: false,
     };
-    let [bad_lengths, bad_record, in_problem_state, without_control, _] = faulty_states(settings);
+    let [
+        bad_lengths,
+        bad_record,
+        in_problem_state,
+        without_control,
+        _,
+    ] = faulty_states(settings);
     falls_through::<U>(&[
         (
             bad_lengths.clone(),
-            set_prefix(65_536),
+            Request::set_prefix(65_536),
             0,
-            Number::Configuration,
+            Err(Reason::Configuration),
         ),
-        (bad_record.clone(), set_prefix(65_536), 0, Number::Record),
+        (
+            bad_record.clone(),
+            Request::set_prefix(65_536),
+            0,
+            Err(Reason::Record),
+        ),
         (
             in_problem_state.clone(),
-            set_prefix(65_536),
+            Request::set_prefix(65_536),
             0,
-            Number::Privileged,
+            Err(Reason::Privileged),
         ),
         (
             without_control.clone(),
-            set_prefix(65_536),
+            Request::set_prefix(65_536),
             0,
-            Number::Addressing,
+            Err(Reason::Addressing),
         ),
         (
             without_control.clone(),
-            set_prefix(61_440),
+            Request::set_prefix(61_440),
             0,
-            Number::Completed,
+            COMPLETED,
         ),
-        (bad_lengths, STORE_PREFIX, 0, Number::Configuration),
-        (bad_record, STORE_PREFIX, 0, Number::Record),
-        (in_problem_state, STORE_PREFIX, 0, Number::Privileged),
-        (without_control, STORE_PREFIX, 0, Number::Completed),
+        (
+            bad_lengths,
+            Request::store_prefix(),
+            0,
+            Err(Reason::Configuration),
+        ),
+        (bad_record, Request::store_prefix(), 0, Err(Reason::Record)),
+        (
+            in_problem_state,
+            Request::store_prefix(),
+            0,
+            Err(Reason::Privileged),
+        ),
+        (without_control, Request::store_prefix(), 0, COMPLETED),
     ]);
 }
 
@@ -298,17 +348,17 @@ fn lengths_of_storage_and_keys<U: Unit>() {
             lent.keys = vec![0; keys];
             // SET PREFIX to 4096 needs two blocks.
             let request = match request {
-                Request::Prefix(PrefixInstruction::SetPrefix { .. }) => set_prefix(0),
+                Request::Prefix(PrefixInstruction::SetPrefix { .. }) => Request::set_prefix(0),
                 other => other,
             };
-            let number = if good {
-                Number::Completed
+            let expected = if good {
+                COMPLETED
             } else {
-                Number::Configuration
+                Err(Reason::Configuration)
             };
             assert_eq!(
-                lent.request::<U>(0, &request, &mut [0; 4]).number,
-                number,
+                outcome(lent.request::<U>(0, &request, &mut [0; 4])),
+                expected,
                 "{request:?}, storage {storage}, keys {keys}, 4K {four_k}"
             );
         }
@@ -320,7 +370,7 @@ fn processor_numbers_and_records<U: Unit>() {
     for request in one_of_each() {
         for processor in [2, 3, 256, 65_536, 1 << 31, u32::MAX] {
             let given = answer::<U>(&usual(), processor, request, 4);
-            assert_eq!(given, Answer::refused(Number::Record, 0));
+            assert_eq!(given, comparison::refused(Reason::Record, 0));
         }
         for fault in 0..8 {
             for own in 0..2 {
@@ -339,10 +389,10 @@ fn processor_numbers_and_records<U: Unit>() {
                 let before = lent.clone();
                 let mut buffer = [9; 4];
                 let given = lent.request::<U>(own as u32, &request, &mut buffer);
-                assert_eq!(given, Answer::refused(Number::Record, 0));
+                assert_eq!(given, comparison::refused(Reason::Record, 0));
                 assert!(lent == before && buffer == [9; 4]);
                 let given = answer::<U>(&before, 1 - own as u32, request, 4);
-                assert_eq!(given.number, Number::Completed, "{request:?}");
+                assert_eq!(outcome(given), COMPLETED, "{request:?}");
             }
         }
     }
@@ -357,7 +407,7 @@ fn largest_fields<U: Unit>() {
     lent.keys = vec![0xF0; 32];
     for request in one_of_each() {
         let given = answer::<U>(&lent, 1, request, 4);
-        assert_eq!(given.number, Number::Completed, "{request:?}");
+        assert_eq!(outcome(given), COMPLETED, "{request:?}");
     }
 }
 
@@ -367,13 +417,13 @@ fn outside_before_forbidden<U: Unit>() {
     before.keys[31] = 0x88;
     before.processors[0].psw_key = 3;
     for request in [Request::fetch(65_535, 2), Request::store(65_535, 2)] {
-        refused::<U>(&before, request, &[7; 2], Number::Addressing, 1);
+        refused::<U>(&before, request, &[7; 2], Reason::Addressing, 1);
     }
     refused::<U>(
         &before,
         Request::fetch(65_535, 1),
         &[7; 2],
-        Number::Protection,
+        Reason::Protection,
         0,
     );
 }
@@ -392,7 +442,7 @@ fn start_outside<U: Unit>() {
             &usual(),
             Request::fetch(address, count),
             &[7; 256],
-            Number::Addressing,
+            Reason::Addressing,
             place,
         );
     }
@@ -448,7 +498,7 @@ fn past_the_highest_address<U: Unit>() {
         Request::fetch(16_777_200, 256),
         Request::store(16_777_200, 256),
     ] {
-        refused::<U>(&before, request, &[7; 256], Number::Protection, 16);
+        refused::<U>(&before, request, &[7; 256], Reason::Protection, 16);
     }
 }
 
@@ -495,7 +545,7 @@ fn protection_by_absolute_address<U: Unit>() {
         &before,
         Request::store(8196, 1),
         &[0xFF],
-        Number::Protection,
+        Reason::Protection,
         0,
     );
 }
@@ -537,11 +587,11 @@ fn reaches_block<U: Unit>(before: &Lent, real: usize, block: usize) {
     }
     let key_at = |address| u32::from(before.keys[address / before.settings.key_unit()]);
     for half in [0, 2048] {
-        let request = isk(0, (real + half) as u32);
+        let request = Request::isk(0, (real + half) as u32);
         let given = answer::<U>(before, 0, request, 0);
         assert_eq!(given, completed(before, request, key_at(block + half)));
     }
-    let request = iske(0, real as u32);
+    let request = Request::iske(0, real as u32);
     let given = answer::<U>(before, 0, request, 0);
     assert_eq!(given, completed(before, request, key_at(block)));
 }
@@ -552,25 +602,31 @@ fn prefix_stays_inside<U: Unit>() {
     for blocks in 1..5 {
         let mut before = with_storage(blocks * 4096);
         let end = blocks as u32 * 4096;
-        refused::<U>(&before, set_prefix(end), &[], Number::Addressing, 0);
+        refused::<U>(
+            &before,
+            Request::set_prefix(end),
+            &[],
+            Reason::Addressing,
+            0,
+        );
         for block in 0..blocks as u32 {
             let mut lent = before.clone();
-            let given = lent.request::<U>(0, &set_prefix(block * 4096 + 4095), &mut []);
-            assert_eq!(given, Answer::completed(0, None));
+            let given = lent.request::<U>(0, &Request::set_prefix(block * 4096 + 4095), &mut []);
+            assert_eq!(given, comparison::completed(0, None));
             for request in one_of_each() {
                 let given = answer::<U>(&lent, 0, request, 4);
-                let outside = request == set_prefix(4096) && blocks == 1;
-                let number = if outside {
-                    Number::Addressing
+                let outside = request == Request::set_prefix(4096) && blocks == 1;
+                let expected = if outside {
+                    Err(Reason::Addressing)
                 } else {
-                    Number::Completed
+                    COMPLETED
                 };
-                assert_eq!(given.number, number, "{request:?}");
+                assert_eq!(outcome(given), expected, "{request:?}");
             }
         }
         before.processors[0].prefix = end;
         for request in one_of_each() {
-            refused::<U>(&before, request, &[1; 4], Number::Record, 0);
+            refused::<U>(&before, request, &[1; 4], Reason::Record, 0);
         }
     }
 }
@@ -591,7 +647,7 @@ fn access_to_the_end_of_a_unit<U: Unit>() {
             &before,
             Request::store(start + 1, 256),
             &bytes,
-            Number::Protection,
+            Reason::Protection,
             255,
         );
     }
@@ -628,7 +684,7 @@ fn bit_7_and_accesses<U: Unit>() {
         &before,
         Request::fetch(2040, 16),
         &[0; 16],
-        Number::Protection,
+        Reason::Protection,
         8,
     );
 }
@@ -643,7 +699,7 @@ fn low_address_protection<U: Unit>() {
             &before,
             Request::store(address, count),
             &[7; 256],
-            Number::Protection,
+            Reason::Protection,
             0,
         );
     }
@@ -665,11 +721,11 @@ fn accesses_in_problem_state<U: Unit>() {
     let mut before = usual();
     before.processors[0].problem = true;
     for request in one_of_each() {
-        let number = match request {
-            Request::Access { .. } => Number::Completed,
-            _ => Number::Privileged,
+        let expected = match request {
+            Request::Access { .. } => COMPLETED,
+            _ => Err(Reason::Privileged),
         };
-        assert_eq!(answer::<U>(&before, 0, request, 4).number, number);
+        assert_eq!(outcome(answer::<U>(&before, 0, request, 4)), expected);
     }
 }
 
@@ -677,8 +733,8 @@ fn accesses_in_problem_state<U: Unit>() {
 fn buffers<U: Unit>() {
     let before = usual();
     for request in [Request::fetch(0, 4), Request::store(0, 4)] {
-        refused::<U>(&before, request, &[7; 3], Number::Operand, 0);
-        refused::<U>(&before, request, &[], Number::Operand, 0);
+        refused::<U>(&before, request, &[7; 3], Reason::Operand, 0);
+        refused::<U>(&before, request, &[], Reason::Operand, 0);
     }
     let mut after = before.clone();
     after.keys[0] = 0x04;
@@ -709,16 +765,28 @@ fn key_instructions_are_prefixed<U: Unit>() {
         (8192, 0),
         (10_240, 1),
     ] {
-        completes::<U>(&before, isk(0, real), &[], (unit as u32) << 3, &before);
+        completes::<U>(
+            &before,
+            Request::isk(0, real),
+            &[],
+            (unit as u32) << 3,
+            &before,
+        );
         let mut after = before.clone();
         after.keys[unit] = 0xF0;
-        completes::<U>(&before, ssk(0xF0, real), &[], 0, &after);
+        completes::<U>(&before, Request::ssk(0xF0, real), &[], 0, &after);
     }
     for (real, unit) in [(0, 4), (4096, 2), (8192, 0)] {
-        completes::<U>(&before, iske(0, real), &[], before.iske_of(unit), &before);
+        completes::<U>(
+            &before,
+            Request::iske(0, real),
+            &[],
+            before.iske_of(unit),
+            &before,
+        );
         let mut after = before.clone();
         after.keys[unit..unit + 2].fill(0xF0);
-        completes::<U>(&before, sske(0xF0, real), &[], 0, &after);
+        completes::<U>(&before, Request::sske(0xF0, real), &[], 0, &after);
     }
 }
 
@@ -736,7 +804,7 @@ fn ignored_bits<U: Unit>() {
     let second_block = 0x1800;
     completes::<U>(
         &before,
-        isk(0, 0xFF00_07F0 | second_block),
+        Request::isk(0, 0xFF00_07F0 | second_block),
         &[],
         0x8E,
         &before,
@@ -745,49 +813,49 @@ fn ignored_bits<U: Unit>() {
     after.keys[3] = 0x30;
     completes::<U>(
         &before,
-        ssk(0xFFFF_FF31, 0xFF00_07F0 | second_block),
+        Request::ssk(0xFFFF_FF31, 0xFF00_07F0 | second_block),
         &[],
         0,
         &after,
     );
     for bit in 0..4 {
-        for request in [isk(0, 1 << bit), ssk(0, 1 << bit)] {
-            refused::<U>(&before, request, &[], Number::Specification, 0);
+        for request in [Request::isk(0, 1 << bit), Request::ssk(0, 1 << bit)] {
+            refused::<U>(&before, request, &[], Reason::Specification, 0);
         }
     }
     let mut after = before.clone();
     after.keys[3] = 0x8A;
     after.processors[0].code = 3;
-    completes::<U>(&before, rrb(0x7FF | second_block), &[], 0, &after);
+    completes::<U>(&before, Request::rrb(0x7FF | second_block), &[], 0, &after);
     // Extended instructions: bits 0 and 20-31 of R2.
     completes::<U>(
         &before,
-        iske(0xFFFF_FFFF, 0x8000_1FFF),
+        Request::iske(0xFFFF_FFFF, 0x8000_1FFF),
         &[],
         0xFFFF_FF06,
         &before,
     );
     let mut after = before.clone();
     after.keys[2..4].fill(0x30);
-    completes::<U>(&before, sske(0x31, 0x8000_1FFF), &[], 0, &after);
+    completes::<U>(&before, Request::sske(0x31, 0x8000_1FFF), &[], 0, &after);
     let mut after = before.clone();
     after.keys[3] = 0x8A;
     after.processors[0].code = 3;
-    completes::<U>(&before, rrbe(0x8000_1FFF), &[], 0, &after);
+    completes::<U>(&before, Request::rrbe(0x8000_1FFF), &[], 0, &after);
 }
 
 /// Extended instructions use 31 bits of R2, ISK and SSK 24, RRB needs 24.
 fn address_sizes<U: Unit>() {
     let before = with_storage(16_777_216);
     for request in [
-        iske(0, 0x0100_0000),
-        sske(0xFF, 0x4000_0000),
-        rrbe(0x8100_0000),
+        Request::iske(0, 0x0100_0000),
+        Request::sske(0xFF, 0x4000_0000),
+        Request::rrbe(0x8100_0000),
     ] {
-        refused::<U>(&before, request, &[], Number::Addressing, 0);
+        refused::<U>(&before, request, &[], Reason::Addressing, 0);
     }
-    for request in [rrb(16_777_216), rrb(u32::MAX)] {
-        refused::<U>(&before, request, &[], Number::Operand, 0);
+    for request in [Request::rrb(16_777_216), Request::rrb(u32::MAX)] {
+        refused::<U>(&before, request, &[], Reason::Operand, 0);
     }
     for request in [
         Request::fetch(16_777_216, 1),
@@ -797,11 +865,11 @@ fn address_sizes<U: Unit>() {
         Request::fetch(0, u32::MAX),
         Request::store(u32::MAX, u32::MAX),
     ] {
-        refused::<U>(&before, request, &[7; 300], Number::Operand, 0);
+        refused::<U>(&before, request, &[7; 300], Reason::Operand, 0);
     }
     let mut after = before.clone();
     after.keys[8191] = 0x70;
-    completes::<U>(&before, ssk(0x70, 0xFFFF_FFF0), &[], 0, &after);
+    completes::<U>(&before, Request::ssk(0x70, 0xFFFF_FFF0), &[], 0, &after);
 }
 
 /// ISK and ISKE: bit 31 of the word is zero, and the keys stay, bit 7 as well.
@@ -809,17 +877,29 @@ fn insert<U: Unit>() {
     let mut before = usual();
     before.keys[0] = 0xF1;
     before.keys[1] = 0x0B;
-    completes::<U>(&before, isk(0xFFFF_FFFF, 0), &[], 0xFFFF_FFF0, &before);
-    completes::<U>(&before, isk(0, 0x800), &[], 0x0A, &before);
+    completes::<U>(
+        &before,
+        Request::isk(0xFFFF_FFFF, 0),
+        &[],
+        0xFFFF_FFF0,
+        &before,
+    );
+    completes::<U>(&before, Request::isk(0, 0x800), &[], 0x0A, &before);
     // Of the high-order key, only reference and change are taken.
-    completes::<U>(&before, iske(0xFFFF_FFFF, 0), &[], 0xFFFF_FFF2, &before);
+    completes::<U>(
+        &before,
+        Request::iske(0xFFFF_FFFF, 0),
+        &[],
+        0xFFFF_FFF2,
+        &before,
+    );
     // Every pair of reference and change bits.
     for low in 0..4_u8 {
         for high in 0..4_u8 {
             before.keys[0] = 0x81 | low << 1;
             before.keys[1] = 0x79 | high << 1;
             let word = 0x80 | u32::from(low | high) << 1;
-            completes::<U>(&before, iske(0, 0), &[], word, &before);
+            completes::<U>(&before, Request::iske(0, 0), &[], word, &before);
         }
     }
 }
@@ -835,14 +915,14 @@ fn reset_reference<U: Unit>() {
             let mut after = before.clone();
             after.keys[6] = 0x98 | (low & 1) << 1;
             after.processors[0].code = low;
-            completes::<U>(&before, rrb(0x3000), &[], 0, &after);
+            completes::<U>(&before, Request::rrb(0x3000), &[], 0, &after);
             after.keys[7] = 0xA0 | (high & 1) << 1;
             after.processors[0].code = low | high;
-            completes::<U>(&before, rrbe(0x3000), &[], 0, &after);
+            completes::<U>(&before, Request::rrbe(0x3000), &[], 0, &after);
             let mut after = before.clone();
             after.keys[7] = 0xA0 | (high & 1) << 1;
             after.processors[0].code = high;
-            completes::<U>(&before, rrb(0x3800), &[], 0, &after);
+            completes::<U>(&before, Request::rrb(0x3800), &[], 0, &after);
         }
     }
 }
@@ -853,18 +933,30 @@ fn key_instructions_with_4k_units<U: Unit>() {
     before.processors[0].key_control = true;
     before.keys[1] = 0x83;
     before.keys[2] = 0x55;
-    for request in [isk(0, 0x1000), isk(0, 0x1800), iske(0, 0x1800)] {
+    for request in [
+        Request::isk(0, 0x1000),
+        Request::isk(0, 0x1800),
+        Request::iske(0, 0x1800),
+    ] {
         completes::<U>(&before, request, &[], 0x82, &before);
     }
     let mut after = before.clone();
     after.keys[1] = 0x32;
-    for request in [ssk(0x33, 0x1000), ssk(0x33, 0x1800), sske(0x33, 0x1800)] {
+    for request in [
+        Request::ssk(0x33, 0x1000),
+        Request::ssk(0x33, 0x1800),
+        Request::sske(0x33, 0x1800),
+    ] {
         completes::<U>(&before, request, &[], 0, &after);
     }
     let mut after = before.clone();
     after.keys[1] = 0x82;
     after.processors[0].code = 1;
-    for request in [rrb(0x1000), rrb(0x1FFF), rrbe(0x1FFF)] {
+    for request in [
+        Request::rrb(0x1000),
+        Request::rrb(0x1FFF),
+        Request::rrbe(0x1FFF),
+    ] {
         completes::<U>(&before, request, &[], 0, &after);
     }
 }
@@ -885,12 +977,12 @@ fn key_control<U: Unit>() {
                             | KeyInstruction::Rrb { .. }
                     )
                 );
-                let number = if plain_key_instruction && four_k && !control {
-                    Number::SpecialOperation
+                let expected = if plain_key_instruction && four_k && !control {
+                    Err(Reason::SpecialOperation)
                 } else {
-                    Number::Completed
+                    COMPLETED
                 };
-                assert_eq!(answer::<U>(&before, 0, request, 4).number, number);
+                assert_eq!(outcome(answer::<U>(&before, 0, request, 4)), expected);
             }
         }
     }
@@ -904,13 +996,13 @@ fn key_instructions_are_not_protected<U: Unit>() {
     before.processors[0].low_protection = true;
     before.keys[0] = 0x88;
     before.keys[1] = 0x88;
-    completes::<U>(&before, isk(0, 0), &[], 0x88, &before);
-    completes::<U>(&before, iske(0, 0), &[], 0x88, &before);
+    completes::<U>(&before, Request::isk(0, 0), &[], 0x88, &before);
+    completes::<U>(&before, Request::iske(0, 0), &[], 0x88, &before);
     let mut after = before.clone();
     after.keys[0] = 0x40;
-    completes::<U>(&before, ssk(0x40, 0), &[], 0, &after);
+    completes::<U>(&before, Request::ssk(0x40, 0), &[], 0, &after);
     after.keys[1] = 0x40;
-    completes::<U>(&before, sske(0x40, 0), &[], 0, &after);
+    completes::<U>(&before, Request::sske(0x40, 0), &[], 0, &after);
 }
 
 /// SET PREFIX takes bits 8-19 of its word; the block is not prefixed, and its keys and
@@ -932,34 +1024,54 @@ fn set_prefix_rules<U: Unit>() {
     ] {
         let mut after = before.clone();
         after.processors[0].prefix = prefix;
-        completes::<U>(&before, set_prefix(word), &[7; 3], 0, &after);
-        completes::<U>(&after, STORE_PREFIX, &[7; 3], prefix, &after);
+        completes::<U>(&before, Request::set_prefix(word), &[7; 3], 0, &after);
+        completes::<U>(&after, Request::store_prefix(), &[7; 3], prefix, &after);
     }
     for word in [65_536, 0x00FF_F000, 0xFF01_0000] {
-        refused::<U>(&before, set_prefix(word), &[], Number::Addressing, 0);
+        refused::<U>(
+            &before,
+            Request::set_prefix(word),
+            &[],
+            Reason::Addressing,
+            0,
+        );
     }
 }
 
 /// A new prefix holds from the next request of that processor, and only for it.
 fn new_prefix_holds<U: Unit>() {
     let mut lent = usual();
-    let given = lent.request::<U>(1, &set_prefix(4096), &mut []);
-    assert_eq!(given, Answer::completed(0, None));
+    let given = lent.request::<U>(1, &Request::set_prefix(4096), &mut []);
+    assert_eq!(given, comparison::completed(0, None));
     let mut buffer = [0];
-    lent.request::<U>(1, &Request::fetch(10, 1), &mut buffer);
+    let given = lent.request::<U>(1, &Request::fetch(10, 1), &mut buffer);
+    assert_eq!(outcome(given), COMPLETED);
     assert_eq!(buffer, [content(4106)]);
-    lent.request::<U>(0, &Request::fetch(10, 1), &mut buffer);
+    let given = lent.request::<U>(0, &Request::fetch(10, 1), &mut buffer);
+    assert_eq!(outcome(given), COMPLETED);
     assert_eq!(buffer, [10]);
     assert_eq!(lent.processors[0].prefix, 0);
     assert_eq!(lent.processors[1].prefix, 4096);
-    let given = lent.request::<U>(0, &STORE_PREFIX, &mut []);
-    assert_eq!(given, Answer::completed(0, None));
+    let given = lent.request::<U>(0, &Request::store_prefix(), &mut []);
+    assert_eq!(given, comparison::completed(0, None));
 }
 
 /// SET PREFIX cannot mend a bad prefix.
 fn bad_prefix_stays<U: Unit>() {
-    refused::<U>(&with_prefix(65_536), set_prefix(0), &[], Number::Record, 0);
-    refused::<U>(&with_prefix(4), STORE_PREFIX, &[], Number::Record, 0);
+    refused::<U>(
+        &with_prefix(65_536),
+        Request::set_prefix(0),
+        &[],
+        Reason::Record,
+        0,
+    );
+    refused::<U>(
+        &with_prefix(4),
+        Request::store_prefix(),
+        &[],
+        Reason::Record,
+        0,
+    );
 }
 
 /// Without the extensions, everything but the three extended instructions completes.
@@ -975,12 +1087,12 @@ fn without_extensions<U: Unit>() {
                     | KeyInstruction::Rrbe { .. }
             )
         );
-        let number = if extended {
-            Number::Operation
+        let expected = if extended {
+            Err(Reason::Operation)
         } else {
-            Number::Completed
+            COMPLETED
         };
-        assert_eq!(answer::<U>(&before, 0, request, 4).number, number);
+        assert_eq!(outcome(answer::<U>(&before, 0, request, 4)), expected);
     }
 }
 
@@ -994,7 +1106,7 @@ fn condition_code<U: Unit>() {
         for processor in 0..2 {
             let mut lent = before.clone();
             let given = lent.request::<U>(processor, &request, &mut [0; 4]);
-            assert_eq!(given.number, Number::Completed);
+            assert_eq!(outcome(given), COMPLETED);
             let resets = matches!(
                 request,
                 Request::Key(KeyInstruction::Rrb { .. } | KeyInstruction::Rrbe { .. })

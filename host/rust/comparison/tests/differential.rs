@@ -17,14 +17,16 @@ mod support;
 use std::fmt::Write;
 use std::thread;
 
-use storage_unit::plain::{Plain, PlainBehindBoundary};
-use storage_unit::reference::{self, Reference};
 use storage_unit::{
-    boundary, AccessKind, Answer, KeyInstruction, Number, PrefixInstruction, Processor, Request,
-    Rule, Settings, Unit,
+    AccessKind, Answer, KeyInstruction, PrefixInstruction, Processor, Reason, Request, Rule,
+    Settings, boundary,
 };
+use storage_unit_comparison::numbers::number;
+use storage_unit_comparison::units::{
+    Plain, PlainBehindBoundary, PlainShortWay, Proved, ProvedMachine, ProvedShortWay, Reference,
+};
+use storage_unit_comparison::{Unit, reference};
 
-use support::short_way::{PlainShortWay, ProvedShortWay};
 use support::*;
 
 const DEFAULT_REQUESTS: u64 = 1_000_000;
@@ -48,6 +50,9 @@ const OPERATIONS: [&str; 10] = [
     "SET PREFIX",
     "STORE PREFIX",
 ];
+
+/// The numbers of answers: 0 for completed, and that of every reason.
+const NUMBERS: [u16; 10] = [0, 1, 2, 4, 5, 6, 19, 64, 65, 66];
 
 /// The numbers each operation can give besides 0, 64 and 65.
 fn possible_numbers(operation: usize) -> &'static [u16] {
@@ -263,11 +268,13 @@ fn events_of(
         return met;
     };
     let other = &records_before[1 - asked.processor as usize];
-    let completed = answer.number == Number::Completed;
+    let completed = answer.is_ok();
+    let refused = |reason| outcome(*answer) == Err(reason);
+    let place = answer.err().map_or(0, |refusal| refusal.place);
     let two_keys = !settings.four_k;
     met.set(
         Event::PrefixAtEnd,
-        answer.number == Number::Record
+        refused(Reason::Record)
             && own.prefix as usize == storage_length
             && absolute_outside(&asked.request, own.prefix, storage_length),
     );
@@ -296,15 +303,15 @@ fn events_of(
         } => {
             met.set(
                 Event::BufferOneShort,
-                answer.number == Number::Operand
+                refused(Reason::Operand)
                     && (1..=256).contains(&count)
                     && address < ADDRESSES_24
                     && asked.buffer_length + 1 == count as usize,
             );
-            if !completed && answer.number != Number::Protection {
+            if !completed && !refused(Reason::Protection) {
                 met.set(
                     Event::OutsideAfterFirstByte,
-                    answer.number == Number::Addressing && answer.place > 0,
+                    refused(Reason::Addressing) && place > 0,
                 );
                 return met;
             }
@@ -357,9 +364,9 @@ fn events_of(
                     past_end
                         && low_store
                         && own.psw_key == 0
-                        && u32::from(answer.place) == ADDRESSES_24 - address,
+                        && u32::from(place) == ADDRESSES_24 - address,
                 );
-                met.set(Event::RefusedInSecondUnit, answer.place > 0);
+                met.set(Event::RefusedInSecondUnit, place > 0);
                 met.set(
                     Event::LowAddressAgainstKeyZero,
                     low_store && own.psw_key == 0 && address < 512,
@@ -420,7 +427,7 @@ fn events_of(
         ) => {
             met.set(
                 Event::ExtendedOutsideByBits1To7,
-                answer.number == Number::Addressing
+                refused(Reason::Addressing)
                     && r2 & 0x7F00_0000 != 0
                     && ((r2 & 0x00FF_FFFF) as usize) < storage_length,
             );
@@ -438,7 +445,7 @@ fn events_of(
 
 /// How often each operation gave each number, and how often each event was met.
 struct Counts {
-    numbers: [[u64; Number::ALL.len()]; OPERATIONS.len()],
+    numbers: [[u64; NUMBERS.len()]; OPERATIONS.len()],
     events: [u64; EVENTS.len()],
     machines: u64,
 }
@@ -446,13 +453,13 @@ struct Counts {
 impl Counts {
     fn new() -> Self {
         Counts {
-            numbers: [[0; Number::ALL.len()]; OPERATIONS.len()],
+            numbers: [[0; NUMBERS.len()]; OPERATIONS.len()],
             events: [0; EVENTS.len()],
             machines: 0,
         }
     }
 
-    fn total(&self, number: Number) -> u64 {
+    fn total(&self, number: u16) -> u64 {
         let column = column(number);
         self.numbers.iter().map(|row| row[column]).sum()
     }
@@ -460,8 +467,8 @@ impl Counts {
     fn table(&self, requests: u64) -> String {
         let mut text = format!("{requests} requests on {} machines\n", self.machines);
         write!(text, "{:14}", "").unwrap();
-        for number in Number::ALL {
-            write!(text, "{:>9}", number.code()).unwrap();
+        for number in NUMBERS {
+            write!(text, "{number:>9}").unwrap();
         }
         text.push('\n');
         for (name, row) in OPERATIONS.iter().zip(&self.numbers) {
@@ -484,23 +491,22 @@ impl Counts {
         if requests < ENOUGH_TO_COUNT {
             return;
         }
-        for number in Number::ALL {
+        for number in NUMBERS {
             let minimum = requests / 500;
             assert!(
                 self.total(number) >= minimum,
-                "{number:?} came back {} times, fewer than {minimum}",
+                "{number} came back {} times, fewer than {minimum}",
                 self.total(number)
             );
         }
         for (operation, row) in self.numbers.iter().enumerate() {
-            for (number, count) in Number::ALL.into_iter().zip(row) {
-                let code = number.code();
+            for (number, count) in NUMBERS.into_iter().zip(row) {
                 let possible =
-                    [0, 64, 65].contains(&code) || possible_numbers(operation).contains(&code);
+                    [0, 64, 65].contains(&number) || possible_numbers(operation).contains(&number);
                 let minimum = if possible { requests / 5_000 } else { 0 };
                 assert!(
                     *count >= minimum && (possible || *count == 0),
-                    "{} gave {code} {count} times",
+                    "{} gave {number} {count} times",
                     OPERATIONS[operation]
                 );
             }
@@ -516,8 +522,8 @@ impl Counts {
     }
 }
 
-fn column(number: Number) -> usize {
-    Number::ALL
+fn column(number: u16) -> usize {
+    NUMBERS
         .iter()
         .position(|each| *each == number)
         .expect("every number is in the list")
@@ -730,7 +736,7 @@ fn run_machine<U: Unit>(seed: u64, limit: u64, counts: &mut Counts) -> u64 {
         }
 
         let (operation, _, _) = boundary::encode_request(&request);
-        counts.numbers[operation as usize][column(expected_answer.number)] += 1;
+        counts.numbers[operation as usize][column(number(expected_answer))] += 1;
         let met = events_of(
             settings,
             &keys_before,
@@ -823,12 +829,17 @@ fn plain_short_way_against_reference() {
 
 #[test]
 fn proved_against_reference() {
-    run::<storage_unit::proved::Proved>();
+    run::<Proved>();
 }
 
 #[test]
 fn proved_short_way_against_reference() {
     run::<ProvedShortWay>();
+}
+
+#[test]
+fn proved_machine_against_reference() {
+    run::<ProvedMachine>();
 }
 
 /// The units that `units_named` gives are those whose keys a completed request
@@ -853,7 +864,7 @@ fn units_named_by_the_reference() {
         let request = random_request(random, &aim);
         let mut buffer = vec![0; 300];
         let answer = lent.request::<Reference>(0, &request, &mut buffer);
-        let named = reference::units_named(settings, &own, &request, answer.number);
+        let named = reference::units_named(settings, &own, &request, &answer);
         // Every key had bit 7 on. The keys where it went off were written.
         let written: Vec<usize> = (0..lent.keys.len())
             .filter(|unit| lent.keys[*unit] & 1 == 0)
@@ -862,7 +873,7 @@ fn units_named_by_the_reference() {
             request,
             Request::Key(KeyInstruction::Isk { .. } | KeyInstruction::Iske { .. })
         );
-        if answer.number == Number::Completed && !inserts {
+        if answer.is_ok() && !inserts {
             assert_eq!(named, written, "{request:?}");
         } else {
             assert_eq!(written, [], "{request:?}");

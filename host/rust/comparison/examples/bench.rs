@@ -22,7 +22,6 @@ use storage_unit::boundary::{
     storage_unit_store,
 };
 use storage_unit::{AccessKind, Processor, Request, Settings};
-use storage_unit_comparison::numbers::number;
 use storage_unit_comparison::plain::{
     self, storage_unit_fetch_plain, storage_unit_request_plain, storage_unit_store_plain,
 };
@@ -451,7 +450,7 @@ fn plain_typed(machine: &mut Machine) -> Option<f64> {
                     &mut machine.buffer,
                 ),
             };
-            other += machine.unexpected(number(black_box(answer)));
+            other += machine.unexpected(black_box(answer).number());
         }
         other
     }))

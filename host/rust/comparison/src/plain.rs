@@ -24,21 +24,61 @@ const UNUSED: u8 = 0x01;
 /// The end of the real addresses that low-address protection covers.
 const LOW_END: u32 = 512;
 
-/// What a request gives: an [`Answer`], or the number that the C functions give.
-trait Reply {
-    fn completed(word: u32, rule: Option<Rule>) -> Self;
-    fn refused(reason: Reason, place: u8) -> Self;
+/// An answer with its parts side by side, in eight bytes.
+#[derive(Clone, Copy, Debug)]
+pub struct FlatAnswer {
+    /// Why it is refused; `None` if it is completed.
+    pub reason: Option<Reason>,
+    /// The place, 0 to 255.
+    pub place: u16,
+    /// The word.
+    pub word: u32,
+    /// The rule.
+    pub rule: Option<Rule>,
 }
 
-impl Reply for Answer {
+impl FlatAnswer {
+    /// The number: 0 if it is completed.
+    #[inline]
+    pub fn number(self) -> u16 {
+        self.reason.map_or(0, Reason::number)
+    }
+}
+
+impl From<FlatAnswer> for Answer {
+    fn from(flat: FlatAnswer) -> Answer {
+        match flat.reason {
+            None => crate::completed(flat.word, flat.rule),
+            Some(reason) => crate::refused(reason, flat.place as u8),
+        }
+    }
+}
+
+/// What a request gives: a [`FlatAnswer`], or the number that the C functions give.
+trait Reply {
+    fn completed(word: u32, rule: Option<Rule>) -> Self;
+    fn refused(reason: Reason, place: u16) -> Self;
+}
+
+impl Reply for FlatAnswer {
     #[inline]
     fn completed(word: u32, rule: Option<Rule>) -> Self {
-        crate::completed(word, rule)
+        FlatAnswer {
+            reason: None,
+            place: 0,
+            word,
+            rule,
+        }
     }
 
     #[inline]
-    fn refused(reason: Reason, place: u8) -> Self {
-        crate::refused(reason, place)
+    fn refused(reason: Reason, place: u16) -> Self {
+        FlatAnswer {
+            reason: Some(reason),
+            place,
+            word: 0,
+            rule: None,
+        }
     }
 }
 
@@ -49,8 +89,8 @@ impl Reply for u64 {
     }
 
     #[inline]
-    fn refused(reason: Reason, place: u8) -> Self {
-        encode_answer(crate::refused(reason, place))
+    fn refused(reason: Reason, place: u16) -> Self {
+        encode_answer(crate::refused(reason, place as u8))
     }
 }
 
@@ -71,7 +111,7 @@ trait Record {
 }
 
 impl Record for Processor {
-    type Reply = Answer;
+    type Reply = FlatAnswer;
 
     #[inline(always)]
     fn is_wrong(&self, length: usize) -> bool {
@@ -251,7 +291,7 @@ fn fetch_from<P: Record>(
     bytes: &mut [u8],
 ) -> P::Reply {
     if let Some((reason, place)) = access_refused(storage.len(), address, bytes.len()) {
-        return P::Reply::refused(reason, place as u8);
+        return P::Reply::refused(reason, place as u16);
     }
     if bytes.len() > room(shift, address) {
         return fetch_from_two(shift, storage, keys, own, address, bytes);
@@ -284,7 +324,7 @@ fn fetch_from_two<P: Record>(
         return P::Reply::refused(Reason::Protection, 0);
     }
     if !may_fetch(own, keys[units[1]]) {
-        return P::Reply::refused(Reason::Protection, room as u8);
+        return P::Reply::refused(Reason::Protection, room as u16);
     }
     for unit in units {
         keys[unit] = keys[unit] & !UNUSED | REFERENCE;
@@ -306,7 +346,7 @@ fn store_to<P: Record>(
     bytes: &[u8],
 ) -> P::Reply {
     if let Some((reason, place)) = access_refused(storage.len(), address, bytes.len()) {
-        return P::Reply::refused(reason, place as u8);
+        return P::Reply::refused(reason, place as u16);
     }
     if bytes.len() > room(shift, address) {
         return store_to_two(shift, storage, keys, own, address, bytes);
@@ -340,7 +380,7 @@ fn store_to_two<P: Record>(
         return P::Reply::refused(Reason::Protection, 0);
     }
     if !may_store(own, next, keys[units[1]]) {
-        return P::Reply::refused(Reason::Protection, room as u8);
+        return P::Reply::refused(Reason::Protection, room as u16);
     }
     for unit in units {
         keys[unit] = keys[unit] & !UNUSED | REFERENCE | CHANGE;
@@ -492,14 +532,14 @@ pub fn request(
     processor_number: u32,
     request: &Request,
     buffer: &mut [u8],
-) -> Answer {
+) -> FlatAnswer {
     let shift = unit_shift(settings);
     if lengths_wrong(shift, storage.len(), keys.len()) {
-        return crate::refused(Reason::Configuration, 0);
+        return FlatAnswer::refused(Reason::Configuration, 0);
     }
     let own = match processors.get_mut(processor_number as usize) {
         Some(own) if !own.is_wrong(storage.len()) => own,
-        _ => return crate::refused(Reason::Record, 0),
+        _ => return FlatAnswer::refused(Reason::Record, 0),
     };
     match *request {
         Request::Access {
@@ -568,7 +608,7 @@ pub fn fetch(
     own: &Processor,
     address: u32,
     bytes: &mut [u8],
-) -> Answer {
+) -> FlatAnswer {
     fetch_in(settings, storage, keys, own, address, bytes)
 }
 
@@ -581,7 +621,7 @@ pub fn store(
     own: &Processor,
     address: u32,
     bytes: &[u8],
-) -> Answer {
+) -> FlatAnswer {
     store_in(settings, storage, keys, own, address, bytes)
 }
 

@@ -20,7 +20,10 @@ pub struct Plain;
 
 impl Unit for Plain {
     const NAME: &'static str = "plain";
-    const REQUEST: RequestFunction = plain::request;
+    const REQUEST: RequestFunction =
+        |settings, storage, keys, processors, number, asked, buffer| {
+            plain::request(settings, storage, keys, processors, number, asked, buffer).into()
+        };
 }
 
 /// The plain implementation by its C function for every request.
@@ -55,7 +58,7 @@ impl Unit for PlainShortWay {
         |settings, storage, keys, processors, number, asked, buffer| {
             let own = processors.get(number as usize).copied();
             by_access(PLAIN, settings, storage, keys, own, asked, buffer).unwrap_or_else(|| {
-                plain::request(settings, storage, keys, processors, number, asked, buffer)
+                (Plain::REQUEST)(settings, storage, keys, processors, number, asked, buffer)
             })
         };
 }
@@ -77,7 +80,7 @@ impl Unit for ProvedShortWay {
         |settings, storage, keys, processors, number, asked, buffer| {
             let own = processors.get(number as usize).copied();
             by_access(PROVED, settings, storage, keys, own, asked, buffer).unwrap_or_else(|| {
-                storage_unit::request(settings, storage, keys, processors, number, asked, buffer)
+                (Proved::REQUEST)(settings, storage, keys, processors, number, asked, buffer)
             })
         };
 }

@@ -1,8 +1,32 @@
 //! The C functions of the static library, with their parameters and results as numbers and bytes.
 //!
-//! A program that keeps its records as bytes can call them without the types of this crate. The
-//! numbers and bytes are those of `host/include/storage_unit.h`, which says what each parameter
-//! is. The functions `call...` are for these C functions and for others of the same type.
+//! The numbers and bytes are those of `host/include/storage_unit.h`, which says what each parameter
+//! is. The functions `call...` are for these C functions and for others of the same type. A program
+//! that keeps its records as bytes needs none of this crate's types:
+//!
+//! ```
+//! use storage_unit::boundary::{RECORDS_LENGTH, STORE, call_raw, packed_number, storage_unit_request};
+//!
+//! let (mut storage, mut keys) = (vec![0; 4096], vec![0; 2]);
+//! let mut records = [0; RECORDS_LENGTH];
+//! let mut buffer = *b"ABCD";
+//! let request = (STORE, 100, 4);
+//! // SAFETY: it is the C function of the static library.
+//! let packed = unsafe {
+//!     call_raw(
+//!         storage_unit_request,
+//!         0,
+//!         &mut storage,
+//!         &mut keys,
+//!         &mut records,
+//!         0,
+//!         request,
+//!         &mut buffer,
+//!     )
+//! };
+//! assert_eq!(packed_number(packed), 0);
+//! assert_eq!(&storage[100..104], b"ABCD");
+//! ```
 
 use crate::{
     AccessKind, Answer, Completed, KeyInstruction, PrefixInstruction, Processor, Reason, Refusal,
@@ -185,6 +209,7 @@ pub const STORE_PREFIX: u32 = 9;
 
 /// The settings as a number.
 #[inline]
+#[must_use]
 pub const fn encode_settings(settings: Settings) -> u32 {
     (if settings.four_k { FOUR_K } else { 0 }) | (if settings.extensions { EXTENSIONS } else { 0 })
 }
@@ -198,6 +223,7 @@ const fn at(place: usize, byte: u8) -> u64 {
 
 /// A record as one number: that which its bytes make, the least significant first.
 #[inline]
+#[must_use]
 pub const fn record_value(processor: &Processor) -> u64 {
     let controls = (processor.problem as u8 * PROBLEM)
         | (processor.low_protection as u8 * LOW_PROTECTION)
@@ -210,6 +236,7 @@ pub const fn record_value(processor: &Processor) -> u64 {
 
 /// A record as bytes.
 #[inline]
+#[must_use]
 pub const fn encode_processor(processor: &Processor) -> [u8; RECORD_LENGTH] {
     record_value(processor).to_le_bytes()
 }
@@ -217,12 +244,14 @@ pub const fn encode_processor(processor: &Processor) -> [u8; RECORD_LENGTH] {
 /// A record from its bytes. Where a reserved bit is on, the PSW key is taken for 255, so
 /// that a request for this processor is refused with [`Reason::Record`].
 #[inline]
+#[must_use]
 pub const fn decode_processor(bytes: &[u8; RECORD_LENGTH]) -> Processor {
     record_from_value(u64::from_le_bytes(*bytes))
 }
 
 /// A record from its number. Reserved bits as for [`decode_processor`].
 #[inline]
+#[must_use]
 pub const fn record_from_value(record: u64) -> Processor {
     let reserved = at(CONTROLS_AT, RESERVED_CONTROLS) | at(RESERVED_AT, 0xFF);
     Processor {
@@ -241,6 +270,7 @@ pub const fn record_from_value(record: u64) -> Processor {
 
 /// The two records as bytes, that of processor 0 first.
 #[inline]
+#[must_use]
 pub fn encode_processors(processors: &[Processor; 2]) -> [u8; RECORDS_LENGTH] {
     let mut bytes = [0; RECORDS_LENGTH];
     let (first, second) = bytes.split_at_mut(RECORD_LENGTH);
@@ -251,6 +281,7 @@ pub fn encode_processors(processors: &[Processor; 2]) -> [u8; RECORDS_LENGTH] {
 
 /// The two records from their bytes, that of processor 0 first.
 #[inline]
+#[must_use]
 pub fn decode_processors(bytes: &[u8; RECORDS_LENGTH]) -> [Processor; 2] {
     [0, RECORD_LENGTH].map(|start| {
         let mut record = [0; RECORD_LENGTH];
@@ -262,6 +293,7 @@ pub fn decode_processors(bytes: &[u8; RECORDS_LENGTH]) -> [Processor; 2] {
 /// Operation number, first and second operand of a request. Operands that are not used
 /// are zero here and ignored by the function.
 #[inline]
+#[must_use]
 pub const fn encode_request(request: &Request) -> (u32, u32, u32) {
     match *request {
         Request::Access {
@@ -287,13 +319,13 @@ pub const fn encode_request(request: &Request) -> (u32, u32, u32) {
     }
 }
 
-/// The bits of an answer's packed form that hold the word, the place, the rule and the number.
+/// The bits of a packed answer with the word.
 pub const ANSWER_WORD: u64 = 0x0000_0000_FFFF_FFFF;
-/// See [`ANSWER_WORD`].
+/// The bits of a packed answer with the place.
 pub const ANSWER_PLACE: u64 = 0x0000_00FF_0000_0000;
-/// See [`ANSWER_WORD`].
+/// The bits of a packed answer with the rule.
 pub const ANSWER_RULE: u64 = 0x0000_FF00_0000_0000;
-/// See [`ANSWER_WORD`].
+/// The bits of a packed answer with the number.
 pub const ANSWER_NUMBER: u64 = 0xFFFF_0000_0000_0000;
 
 /// The number of an answer in its packed form: 0 if the request is completed, otherwise that
@@ -320,41 +352,64 @@ pub const fn packed_number(packed: u64) -> u16 {
 #[inline]
 #[must_use]
 pub const fn decode_answer(packed: u64) -> Option<Answer> {
-    if packed & (ANSWER_NUMBER | ANSWER_PLACE) == 0 {
-        let rule = match (packed >> ANSWER_RULE.trailing_zeros()) as u8 {
-            0 => None,
-            1 => Some(Rule::Zero),
-            2 => Some(Rule::Prefix),
-            3 => Some(Rule::Unchanged),
-            _ => return None,
-        };
-        let word = packed as u32;
-        return Some(Ok(Completed { word, rule }));
+    match completed(packed) {
+        Some(completed) => Some(Ok(completed)),
+        None => match refusal(packed) {
+            Some(refusal) => Some(Err(refusal)),
+            None => None,
+        },
     }
+}
+
+/// What a completed request gives, or `None` if the packed form is not that of one.
+#[inline]
+const fn completed(packed: u64) -> Option<Completed> {
+    if packed & (ANSWER_NUMBER | ANSWER_PLACE) != 0 {
+        return None;
+    }
+    let rule = match (packed >> ANSWER_RULE.trailing_zeros()) as u8 {
+        0 => None,
+        1 => Some(Rule::Zero),
+        2 => Some(Rule::Prefix),
+        3 => Some(Rule::Unchanged),
+        _ => return None,
+    };
+    let word = packed as u32;
+    Some(Completed { word, rule })
+}
+
+/// Why and where a request was refused, or `None` if the packed form is not that of a refusal.
+#[inline]
+const fn refusal(packed: u64) -> Option<Refusal> {
     if packed & (ANSWER_WORD | ANSWER_RULE) != 0 {
         return None;
     }
     let place = (packed >> ANSWER_PLACE.trailing_zeros()) as u8;
     match Reason::from_number(packed_number(packed)) {
-        Some(reason) => Some(Err(Refusal { reason, place })),
+        Some(reason) => Some(Refusal { reason, place }),
         None => None,
     }
 }
 
-/// What stands for an answer that this crate does not know. A library of another version gave
-/// it; that of this version never does.
-const UNKNOWN: Answer = Err(Refusal {
-    reason: Reason::Configuration,
-    place: u8::MAX,
-});
-
-/// The answer from its packed form, whatever that is.
+/// The answer that a C function gave. Refusals are rarer, and are taken apart in one place.
 #[inline]
-const fn answer_given(packed: u64) -> Answer {
-    match decode_answer(packed) {
-        Some(answer) => answer,
-        None => UNKNOWN,
+fn answer_given(packed: u64) -> Answer {
+    match completed(packed) {
+        Some(completed) => Ok(completed),
+        None => Err(refusal_given(packed)),
     }
+}
+
+/// The refusal that a C function gave.
+#[cold]
+#[inline(never)]
+fn refusal_given(packed: u64) -> Refusal {
+    // A library of another version gave what this crate does not know.
+    const UNKNOWN: Refusal = Refusal {
+        reason: Reason::Configuration,
+        place: u8::MAX,
+    };
+    refusal(packed).unwrap_or(UNKNOWN)
 }
 
 /// Calls a C function with slices: settings, storage, keys, records, processor number,
@@ -364,6 +419,7 @@ const fn answer_given(packed: u64) -> Answer {
 ///
 /// `raw` must be a function as [`RawRequest`] describes it.
 #[inline]
+#[must_use]
 #[allow(clippy::too_many_arguments)]
 pub unsafe fn call_raw(
     raw: RawRequest,
@@ -479,6 +535,40 @@ pub unsafe fn call(
     request: &Request,
     buffer: &mut [u8],
 ) -> Answer {
+    // Apart from the rest, so that the operation is a constant here where the caller names it.
+    let numbers = encode_request(request);
+    // SAFETY: the caller guarantees what the function does.
+    answer_given(unsafe {
+        call_with_records(
+            raw,
+            settings,
+            storage,
+            keys,
+            processors,
+            processor_number,
+            numbers,
+            buffer,
+        )
+    })
+}
+
+/// Calls a C function with the bytes of the records, and takes the records from them again.
+///
+/// # Safety
+///
+/// `raw` must be a function as [`RawRequest`] describes it.
+#[inline]
+#[allow(clippy::too_many_arguments)]
+unsafe fn call_with_records(
+    raw: RawRequest,
+    settings: Settings,
+    storage: &mut [u8],
+    keys: &mut [u8],
+    processors: &mut [Processor; 2],
+    processor_number: u32,
+    numbers: (u32, u32, u32),
+    buffer: &mut [u8],
+) -> u64 {
     let sent = encode_processors(processors);
     let mut records = sent;
     // SAFETY: the caller guarantees what the function does.
@@ -490,7 +580,7 @@ pub unsafe fn call(
             keys,
             &mut records,
             processor_number,
-            encode_request(request),
+            numbers,
             buffer,
         )
     };
@@ -499,5 +589,5 @@ pub unsafe fn call(
     if records != sent {
         *processors = decode_processors(&records);
     }
-    answer_given(packed)
+    packed
 }

@@ -12,7 +12,7 @@ use crate::{
 /// A machine: its settings, its storage, the keys of its storage, and the records of its two
 /// processors. [`cpu`](Machine::cpu) makes the requests of a processor.
 ///
-/// [`Machine::new`] makes one that owns what it holds. One that borrows it is a [`Borrowed`],
+/// [`Machine::new`] makes one that owns what it holds. One that borrows it is a [`BorrowedMachine`],
 /// from [`Machine::borrowed`]. Other holders of bytes serve too: `B` is that of the storage and
 /// of the keys, `P` that of the records. The fields are public, and the host may read and write
 /// them between requests. A wrong length is answered with [`Reason::Configuration`], a wrong
@@ -44,7 +44,7 @@ pub struct Machine<B = Vec<u8>, P = [Processor; 2]> {
 }
 
 /// A machine that borrows its storage, its keys and its records.
-pub type Borrowed<'a> = Machine<&'a mut [u8], &'a mut [Processor; 2]>;
+pub type BorrowedMachine<'a> = Machine<&'a mut [u8], &'a mut [Processor; 2]>;
 
 impl Machine {
     /// A machine that owns its storage, of `storage_length` bytes, its keys and its records. All
@@ -81,7 +81,7 @@ impl Machine {
     }
 }
 
-impl<'a> Borrowed<'a> {
+impl<'a> BorrowedMachine<'a> {
     /// A machine that borrows its storage, its keys and its records. It may be made anew for each
     /// request.
     ///
@@ -104,7 +104,7 @@ impl<'a> Borrowed<'a> {
         storage: &'a mut [u8],
         keys: &'a mut [u8],
         processors: &'a mut [Processor; 2],
-    ) -> Borrowed<'a> {
+    ) -> BorrowedMachine<'a> {
         Machine {
             settings,
             storage,

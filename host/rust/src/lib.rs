@@ -58,3 +58,8 @@ pub use machine::{BorrowedMachine, Cpu, Machine};
 pub use requests::{AccessKind, KeyInstruction, PrefixInstruction, Request};
 pub use state::{ACCESS_MAXIMUM, Processor, STORAGE_MAXIMUM, STORAGE_MULTIPLE, Settings, key};
 pub use version::{VERSION, Version, version};
+
+/// The program in the README, which is run with the tests of the documentation.
+#[cfg(doctest)]
+#[doc = include_str!("../README.md")]
+pub struct Readme;

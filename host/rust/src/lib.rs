@@ -2,9 +2,10 @@
 //! and store, the six storage-key instructions, SET PREFIX and STORE PREFIX.
 //!
 //! A [`Machine`] holds the storage, its keys and the records of two processors, and
-//! [`Machine::cpu`] has a method for each operation of a processor. Each gives a [`Completed`] or
-//! a [`Refusal`], which has the manual's program interruption code and has changed nothing. The
-//! functions [`request`], [`fetch`] and [`store`] do the same with what is lent to each call.
+//! the [`Cpu`] that [`Machine::cpu`] gives has a method for each operation. A request gives a
+//! [`Completed`], or a [`Refusal`] with its [`Reason`], for most the manual's program exception,
+//! and then nothing has changed. The functions [`request`], [`fetch`] and [`store`] do the same
+//! with what is lent to each call.
 //!
 //! The work is done by the static library `libstorage_unit.a`, for x86-64 Linux. What it answers
 //! and leaves is proved for all inputs, against rules that rest on the IBM System/370 Principles

@@ -1,11 +1,11 @@
 //! The implementations, and the ways in to them, each as a [`Unit`].
 
 use storage_unit::boundary::{self, RawFetch, RawStore};
-use storage_unit::{AccessKind, Answer, KeyInstruction, Machine, PrefixInstruction};
-use storage_unit::{Processor, Request, Settings};
+use storage_unit::{
+    AccessKind, Answer, KeyInstruction, Machine, PrefixInstruction, Processor, Request, Settings,
+};
 
-use crate::plain::{self, storage_unit_fetch_plain, storage_unit_request_plain};
-use crate::{RequestFunction, Unit, reference};
+use crate::{RequestFunction, Unit, plain, reference};
 
 /// The reference.
 pub struct Reference;
@@ -36,7 +36,7 @@ impl Unit for PlainBehindBoundary {
             // SAFETY: the function keeps to the bytes it is given.
             unsafe {
                 boundary::call(
-                    storage_unit_request_plain,
+                    plain::storage_unit_request_plain,
                     settings,
                     storage,
                     keys,
@@ -100,7 +100,10 @@ impl Unit for ProvedMachine {
 /// The C functions for fetch and store of an implementation.
 type AccessFunctions = (RawFetch, RawStore);
 
-const PLAIN: AccessFunctions = (storage_unit_fetch_plain, plain::storage_unit_store_plain);
+const PLAIN: AccessFunctions = (
+    plain::storage_unit_fetch_plain,
+    plain::storage_unit_store_plain,
+);
 const PROVED: AccessFunctions = (boundary::storage_unit_fetch, boundary::storage_unit_store);
 
 /// A fetch or store by its own C function, or `None` where there is no record, the request is

@@ -71,10 +71,10 @@ pub fn fetch(
     if stops(first) {
         return answer_of(first, 0, 0);
     }
-    let allowed = permissions(kind, p.psw_key);
     let here = span_at(settings, &keys[..], p, address, 0);
     let k = bytes_to_unit_end(settings, address);
     if count <= k as usize {
+        let allowed = permissions(kind, p.psw_key);
         let found = lines_of_one(p, kind, allowed, here);
         if stops(found) {
             return answer_of(found, 0, 0);
@@ -86,6 +86,7 @@ pub fn fetch(
         return refused_at(Reason::Addressing, k);
     }
     let there = span_at(settings, &keys[..], p, address, k);
+    let allowed = permissions(kind, p.psw_key);
     let found = lines_of_two(p, kind, allowed, here, k, there);
     if stops(found) {
         return answer_of(found, 0, 0);
@@ -123,10 +124,10 @@ pub fn store(
     if stops(first) {
         return answer_of(first, 0, 0);
     }
-    let allowed = permissions(kind, p.psw_key);
     let here = span_at(settings, &keys[..], p, address, 0);
     let k = bytes_to_unit_end(settings, address);
     if count <= k as usize {
+        let allowed = permissions(kind, p.psw_key);
         let found = lines_of_one(p, kind, allowed, here);
         if stops(found) {
             return answer_of(found, 0, 0);
@@ -138,6 +139,7 @@ pub fn store(
         return refused_at(Reason::Addressing, k);
     }
     let there = span_at(settings, &keys[..], p, address, k);
+    let allowed = permissions(kind, p.psw_key);
     let found = lines_of_two(p, kind, allowed, here, k, there);
     if stops(found) {
         return answer_of(found, 0, 0);

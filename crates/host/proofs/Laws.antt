@@ -45,10 +45,6 @@ module _ (s : Settings) (storage keys : List ℕ) (p : Processor) (r : Request) 
       let place = place-below-256 s storage keys p r buffer in
       omega (arith, place, refused-word s storage keys p r buffer d, refused-rule s storage keys p buffer r d)
 
--- a number that is at least n and none of the five from n on
-pub five-more : (n m : ℕ) → n ≤ m → (m ≡ n → ⊥) → (m ≡ n + 1 → ⊥) → (m ≡ n + 2 → ⊥) → (m ≡ n + 3 → ⊥) → (m ≡ n + 4 → ⊥) → n + 5 ≤ m
-five-more n m h a b c d e = omega arith
-
 -- an operation number past the last stands for an access of length 0 at the address given
 pub past-last : (operation a b : ℕ) → 10 ≤ operation → Access Fetch a 0 ≡ requestOf operation a b
 past-last operation a b h = sym (List·getD-eq-default (requests a b) (Access Fetch a 0) h)

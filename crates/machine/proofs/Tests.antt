@@ -1,9 +1,10 @@
 -- Tests as sentences: a Boolean test tells a sentence where it holds exactly when the sentence does. One law for each connective and each
 -- comparison. Assumes nothing.
-use Prim.Native.Nat.{ℕ, _<_, _≤_}
+use Prim.Native.Nat.{ℕ, _+_, _<_, _≤_}
 use mathlib.Core.Path.{_≡_, refl}
 use mathlib.Core.Bool.{Bool, true, false, not, _&&_, _||_}
 use mathlib.Core.Logic.{_≢_, _↔_, _⊎_, inl, inr, ⊎-elim}
+use native.Mathlib.Omega.{arith}
 use lib.Dec.{eqb, leb, ltb}
 use borrow.Author.Tests.{ltb-true, ltb-false, leb-true, leb-false, eqb-true, eqb-false, not-true, lt-ltb, le-ltb, le-leb, lt-leb, eq-eqb, ne-eqb}
 use Rattle.machine.proofs.Verdicts.{not-both}
@@ -54,3 +55,7 @@ at-most a b = (leb-true a b, le-leb a b)
 
 pub over : (a b : ℕ) → Denies (leb a b) (b < a)
 over a b = (leb-false a b, lt-leb a b)
+
+-- a number that is at least n and none of the five from n on
+pub five-more : (n m : ℕ) → n ≤ m → (m ≡ n → ⊥) → (m ≡ n + 1 → ⊥) → (m ≡ n + 2 → ⊥) → (m ≡ n + 3 → ⊥) → (m ≡ n + 4 → ⊥) → n + 5 ≤ m
+five-more n m h a b c d e = omega arith

@@ -108,11 +108,11 @@ over-15 kind a over = of kind
         (λ i h. sym (permitted-as-summarized Store a (i * 8)) ∙ none-matches (i * 8) (omega arith))
 
 -- the words of a table: for fetch, then for store
-abbrev pub rowOf : AccessKind → ℕ
+abbrev rowOf : AccessKind → ℕ
 rowOf Fetch = 0
 rowOf Store = 1
 
-abbrev pub wordAt : List (List ℕ) → (row a : ℕ) → ℕ
+abbrev wordAt : List (List ℕ) → (row a : ℕ) → ℕ
 wordAt table row a = getD (getD table row []) a 0
 
 -- a test passes at n numbers, the first of which is `from`
@@ -134,9 +134,9 @@ right table kind a = eqb (wordAt table (rowOf kind) a) (permissions kind a)
 abbrev pub follows : List (List ℕ) → Bool
 follows table = every (λ a. right table Fetch a && right table Store a) 16 0
 
-pub word-follows : (table : List (List ℕ)) → follows table ≡ true → (kind : AccessKind) (a row : ℕ) → row ≡ rowOf kind → a < 16
-    → wordAt table row a ≡ permissions kind a
-word-follows table passed kind a row e h = rw e (eqb-true _ _ (of kind))
+pub word-follows : (table : List (List ℕ)) → follows table ≡ true → (kind : AccessKind) (a : ℕ) → a < 16
+    → wordAt table (rowOf kind) a ≡ permissions kind a
+word-follows table passed kind a h = eqb-true _ _ (of kind)
   where
     here : right table Fetch a && right table Store a ≡ true
     here =

@@ -3,6 +3,7 @@ use machine::AccessKind;
 use machine::Processor;
 ghost use mathlib.Core.Path.{_≡_};
 ghost use Prim.Native.Nat.{_<_, max};
+ghost use lib.ListN.{getD};
 ghost use Rattle.machine.specs.Key.{keyInWord, afterReset, codeOf, joined as joinedOf};
 ghost use Rattle.machine.specs.Protection.{permitted as isPermitted, lowProtected, recorded as recordedBy};
 ghost use Rattle.storage_key.specs.Entries.{permissions as permissionsOf, permits as permitsKey};
@@ -99,6 +100,32 @@ const PERMISSIONS: [[u32; 16]; 2] = [
     ],
 ];
 
+// The word of an access key among the sixteen of a kind. The indexes are constants so that the compiler keeps the words in constant data:
+// indexed by the access key they are built on the stack at each access (docs/BENCHMARK.md).
+fn word_of(words: [u32; 16], access_key: u8) -> u32
+    requires { ⌜ «access_key» < 16 ⌝ }
+    ensures { λ r. ⌜ r ≡ getD words «access_key» 0 ⌝ }
+{
+    match access_key {
+        0 => words[0],
+        1 => words[1],
+        2 => words[2],
+        3 => words[3],
+        4 => words[4],
+        5 => words[5],
+        6 => words[6],
+        7 => words[7],
+        8 => words[8],
+        9 => words[9],
+        10 => words[10],
+        11 => words[11],
+        12 => words[12],
+        13 => words[13],
+        14 => words[14],
+        _ => words[15],
+    }
+}
+
 // The permissions of an access key for a kind of access, a bit for each value of the five leading bits of a storage key, from left to right.
 // An access key over 15 has no entries and matches no storage key: a fetch is permitted where the fetch-protection bit is zero, a store
 // nowhere.
@@ -111,12 +138,11 @@ pub fn permissions(kind: AccessKind, access_key: u8) -> u32
             AccessKind::Store => 0x00000000,
         };
     }
-    let row = match kind {
-        AccessKind::Fetch => 0,
-        AccessKind::Store => 1,
-    };
-    let words = PERMISSIONS[row];
-    words[access_key as usize]
+    let table = PERMISSIONS;
+    match kind {
+        AccessKind::Fetch => word_of(table[0], access_key),
+        AccessKind::Store => word_of(table[1], access_key),
+    }
 }
 
 // What permissions say of a storage key.

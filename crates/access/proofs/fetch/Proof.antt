@@ -38,12 +38,9 @@ returns c =
     rw (c .answer-of .ensures)
     (first-refused _ _ _ _ _ _ _ _ (tested .first-lines .ensures) (judged .stops .ensures) (refused .if1 .taken))
 
-permissions-requires : tie.Need-permissions-requires
-permissions-requires c κs = search needs
-
 span-at-requires : tie.Need-span-at-requires
 span-at-requires c κs =
-    let passed = c .before .before in
+    let passed = c .before in
     let judged = passed .before in
     let tested = judged .before in
     let a = tested .before .before .before .before .args in
@@ -64,12 +61,12 @@ begun : (c : lts.After-bytes-to-unit-end (
   stops-reads.Learnt,
   answer-of-reads.Asked,
   answer-of-reads.Learnt,
-  permissions-reads.Asked,
-  permissions-reads.Learnt,
   span-at-reads.Asked,
   span-at-reads.Learnt,
   bytes-to-unit-end-reads.Asked,
   bytes-to-unit-end-reads.Learnt,
+  permissions-reads.Asked,
+  permissions-reads.Learnt,
   lines-of-one-reads.Asked,
   lines-of-one-reads.Learnt,
   fetch-span-reads.Asked,
@@ -84,15 +81,18 @@ begun : (c : lts.After-bytes-to-unit-end (
   lines-of-two-reads.Learnt,
 )
     reads.Pre reads.Post)
-    → (let a = c .before .before .before .before .before .before .before .before .before .before .args in
+    → (let a = c .before .before .before .before .before .before .before .before .before .args in
     Begun (a .settings) (a .storage .now) (a .keys .now) (a .p) Fetch (a .address) (a .count) (a .buffer .now) (c .before .span-at .result)
     (c .bytes-to-unit-end .result))
 begun c =
     let here = c .before in
-    let passed = here .before .before .before in
+    let passed = here .before .before in
     let judged = passed .before in
     has-begun _ _ _ _ _ _ _ _ (judged .before .first-lines .ensures) (judged .stops .ensures) (passed .if1 .left) (here .span-at .ensures)
     (c .bytes-to-unit-end .ensures)
+
+permissions-requires : tie.Need-permissions-requires
+permissions-requires c κs = search needs
 
 lines-of-one-requires : tie.Need-lines-of-one-requires
 lines-of-one-requires c κs = search needs
@@ -111,7 +111,7 @@ returns-2 c =
     let refused = c .before in
     let judged = refused .before in
     let tested = judged .before in
-    let in-one = tested .before in
+    let in-one = tested .before .before in
     let measured = in-one .before in
     rw (c .answer-of2 .ensures)
     (one-refused (begun measured) (in-one .if2 .taken) (tested .lines-of-one .ensures) (judged .stops2 .ensures) (refused .if3 .taken))
@@ -121,7 +121,7 @@ fetch-span-requires c κs =
     let passed = c .before .before in
     let judged = passed .before in
     let tested = judged .before in
-    let in-one = tested .before in
+    let in-one = tested .before .before in
     let measured = in-one .before in
     one-fits (begun measured) (in-one .if2 .taken) (tested .lines-of-one .ensures) (judged .stops2 .ensures) (passed .if3 .left)
 
@@ -140,7 +140,7 @@ returns-3 c =
     let passed = completed .before .before .before in
     let judged = passed .before in
     let tested = judged .before in
-    let in-one = tested .before in
+    let in-one = tested .before .before in
     let measured = in-one .before in
     let left = completed .fetch-span .ensures in
     rw (c .completed-by .ensures)
@@ -170,6 +170,9 @@ span-at-requires-2 c κs =
     let measured = beyond .before .before in
     second-keyed (begun measured) (sym (beyond .outside .ensures) ∙ inside .if4 .left)
 
+permissions-requires-2 : tie.Need-permissions-requires-2
+permissions-requires-2 c κs = search needs
+
 lines-of-two-requires : tie.Need-lines-of-two-requires
 lines-of-two-requires c κs = search needs
 
@@ -187,7 +190,7 @@ returns-5 c =
     let refused = c .before in
     let judged = refused .before in
     let tested = judged .before in
-    let there = tested .before in
+    let there = tested .before .before in
     let inside = there .before .before in
     let beyond = inside .before in
     let in-two = beyond .before in
@@ -210,7 +213,7 @@ fetch-span-requires-2 c κs =
     let passed = c .before .before in
     let judged = passed .before in
     let tested = judged .before in
-    let there = tested .before in
+    let there = tested .before .before in
     let inside = there .before .before in
     let beyond = inside .before in
     let in-two = beyond .before in
@@ -227,7 +230,7 @@ fetch-span-requires-3 c κs =
     let passed = completed .before .before .before in
     let judged = passed .before in
     let tested = judged .before in
-    let there = tested .before in
+    let there = tested .before .before in
     let inside = there .before .before in
     let beyond = inside .before in
     let in-two = beyond .before in
@@ -253,7 +256,7 @@ returns-6 c =
     let passed = completed .before .before .before in
     let judged = passed .before in
     let tested = judged .before in
-    let there = tested .before in
+    let there = tested .before .before in
     let inside = there .before .before in
     let beyond = inside .before in
     let in-two = beyond .before in
@@ -272,10 +275,10 @@ fetch-spec =
     stops-requires
     answer-of-requires
     returns
-    permissions-requires
     span-at-requires
     bytes-to-unit-end-requires
     cast-if2
+    permissions-requires
     lines-of-one-requires
     stops-requires-2
     answer-of-requires-2
@@ -291,6 +294,7 @@ fetch-spec =
     same-length-4
     returns-4
     span-at-requires-2
+    permissions-requires-2
     lines-of-two-requires
     stops-requires-3
     answer-of-requires-3

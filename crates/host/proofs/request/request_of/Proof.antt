@@ -1,6 +1,7 @@
 -- `request_of` takes the operation's place in the list of requests: by its number. Assumes nothing.
 use Prim.Native.Nat.{zero-le}
-use Rattle.host.proofs.Laws.{five-more, past-last}
+use Rattle.machine.proofs.Tests.{five-more}
+use Rattle.host.proofs.Laws.{past-last}
 use borrow.Author.Needs.{needs}
 use Rattle.host.proofs.request.request_of.Statement.{statement}
 use Rattle.host.proofs.request.request_of.Tie as tie

@@ -1,3 +1,3 @@
 -- What the helpers of this crate ask and give.
-pub mod Decoded
+pub mod Lines
 pub mod Units

@@ -1,5 +1,5 @@
-// The lines of the table of answers that a key instruction can meet, and all of them from top to bottom.
-use crate::decode::Decoded;
+// The lines of the table of answers from top to bottom: those that ISK, SSK and RRB can meet, and those that ISKE, SSKE and RRBE can meet.
+// A line that stops returns early, for speed (docs/BENCHMARK.md).
 use machine::Processor;
 use machine::Reason;
 use machine::Settings;
@@ -8,69 +8,66 @@ use machine::answers::refuse;
 use machine::answers::stops;
 use machine::numbers::valid;
 ghost use mathlib.Core.Path.{_≡_};
-ghost use mathlib.Core.Bool.{not, _&&_};
-ghost use Rattle.machine.specs.Answers.{line, firstOf};
-ghost use Rattle.key_instruction.specs.Decoded.{decodedVerdict};
+ghost use Rattle.key_instruction.specs.Lines.{basicLines, extendedLines};
 
-// Lines 66 and 1: the address of RRB, and the extensions.
-fn operand_lines(settings: Settings, decoded: Decoded) -> Verdict
-    ensures { λ r. ⌜ r
-        ≡ firstOf (line Reason.Operand (decoded .«address_invalid»))
-        (line Reason.Operation (decoded .extended && not (settings .extensions))) ⌝ }
+// A line that refuses the instruction.
+fn stop(reason: Reason) -> Verdict
+    ensures { λ r. ⌜ r ≡ Verdict.Stop reason 0 ⌝ }
 {
-    if decoded.address_invalid {
-        return Verdict::Stop {
-            reason: Reason::Operand,
-            place: 0,
-        };
-    }
-    refuse(Reason::Operation, decoded.extended & !settings.extensions)
+    Verdict::Stop { reason, place: 0 }
 }
 
-// Lines 2, 19 and 6: the state, CR0 bit 7, and bits 28-31 of R2.
-fn state_lines(settings: Settings, p: Processor, decoded: Decoded) -> Verdict
-    ensures { λ r. ⌜ r
-        ≡ firstOf (line Reason.Privileged (p .problem))
-        (firstOf (line Reason.SpecialOperation (not (decoded .extended) && settings .«four_k» && not (p .«key_control»)))
-        (line Reason.Specification (decoded .«low_bits_on»))) ⌝ }
-{
-    if p.problem {
-        return Verdict::Stop {
-            reason: Reason::Privileged,
-            place: 0,
-        };
-    }
-    if !decoded.extended & settings.four_k & !p.key_control {
-        return Verdict::Stop {
-            reason: Reason::SpecialOperation,
-            place: 0,
-        };
-    }
-    refuse(Reason::Specification, decoded.low_bits_on)
-}
-
-// The lines from 64 to 5 for an instruction of a processor with the record p. Here and in the groups above, a line that stops returns early,
-// for speed (docs/BENCHMARK.md).
-pub(crate) fn verdict(
+// Lines 64, 65, 66, 2, 19, 6 and 5. The caller says whether the address of RRB is invalid, and whether any of bits 28-31 of R2 of ISK or
+// SSK is on.
+pub(crate) fn basic_lines(
     settings: Settings,
     storage_length: usize,
     key_length: usize,
     p: Processor,
-    decoded: Decoded,
+    block: u32,
+    address_invalid: bool,
+    low_bits_on: bool,
 ) -> Verdict
-    ensures { λ r. ⌜ r ≡ decodedVerdict settings «storage_length» «key_length» p decoded ⌝ }
+    ensures { λ r. ⌜ r ≡ basicLines settings «storage_length» «key_length» p block «address_invalid» «low_bits_on» ⌝ }
 {
     let machine = valid(settings, storage_length, key_length, p);
     if stops(machine) {
         return machine;
     }
-    let operand = operand_lines(settings, decoded);
-    if stops(operand) {
-        return operand;
+    if address_invalid {
+        return stop(Reason::Operand);
     }
-    let state = state_lines(settings, p, decoded);
-    if stops(state) {
-        return state;
+    if p.problem {
+        return stop(Reason::Privileged);
     }
-    refuse(Reason::Addressing, storage_length <= decoded.block as usize)
+    if settings.four_k & !p.key_control {
+        return stop(Reason::SpecialOperation);
+    }
+    if low_bits_on {
+        return stop(Reason::Specification);
+    }
+    refuse(Reason::Addressing, storage_length <= block as usize)
+}
+
+// Lines 64, 65, 1, 2 and 5.
+pub(crate) fn extended_lines(
+    settings: Settings,
+    storage_length: usize,
+    key_length: usize,
+    p: Processor,
+    block: u32,
+) -> Verdict
+    ensures { λ r. ⌜ r ≡ extendedLines settings «storage_length» «key_length» p block ⌝ }
+{
+    let machine = valid(settings, storage_length, key_length, p);
+    if stops(machine) {
+        return machine;
+    }
+    if !settings.extensions {
+        return stop(Reason::Operation);
+    }
+    if p.problem {
+        return stop(Reason::Privileged);
+    }
+    refuse(Reason::Addressing, storage_length <= block as usize)
 }

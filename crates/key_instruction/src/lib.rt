@@ -1,52 +1,35 @@
-// The six key instructions over a lent key array.
+// The six key instructions over a lent key array: as one function that takes any of them, and in `insert`, `set` and `reset` as a function
+// for each.
+use insert::isk;
+use insert::iske;
 use machine::Answer;
 use machine::KeyInstruction;
-use machine::KeyOperation;
 use machine::Processor;
 use machine::Request;
 use machine::Served;
 use machine::Settings;
-use machine::answers::answer_of;
-use machine::answers::stops;
-use machine::numbers::unit_of;
-use prefixing::prefixed;
+use reset::rrb;
+use reset::rrbe;
+use set::ssk;
+use set::sske;
 ghost use mathlib.Core.Path.{_≡_};
 ghost use mathlib.Core.List.{[]};
-ghost use lib.ListN.{length};
-ghost use Rattle.machine.specs.KeyInstructions.{wordGiven, keysLeft, codeLeft};
 ghost use Rattle.machine.specs.Step.{outcome, step};
-ghost use Rattle.key_instruction.specs.Units.{Inside};
 
+mod block;
 mod checks;
-mod decode;
+pub mod insert;
 mod operations;
+pub mod reset;
+pub mod set;
 
-// What an operation gives: the word that comes back, and the condition code that is left.
-struct Operated {
-    word: u32,
-    code: u8,
-}
-
-// An operation on the keys of unit u and, if on two, of unit u + 1. `code` is the condition code before it.
-fn perform(keys: &mut [u8], code: u8, u: usize, two: bool, operation: KeyOperation) -> Operated
-    requires { ⌜ Inside (length (now keys)) u two ⌝ }
-    ensures { λ r. ⌜ r .word ≡ wordGiven (now (keys .entry)) u two operation ⌝ }
-    ensures { λ r. ⌜ now (keys .exit) ≡ keysLeft (now (keys .entry)) u two operation ⌝ }
-    ensures { λ r. ⌜ r .code ≡ codeLeft (now (keys .entry)) u two operation code ⌝ }
+// An answer with the record as it is.
+fn unchanged(answer: Answer, p: Processor) -> Served
+    ensures { λ r. ⌜ r ≡ record { answer = answer; processor = p } ⌝ }
 {
-    match operation {
-        KeyOperation::Insert { r1 } => {
-            let word = operations::insert(keys, u, two, r1);
-            Operated { word, code }
-        }
-        KeyOperation::Set { r1 } => {
-            operations::set(keys, u, two, r1);
-            Operated { word: 0, code }
-        }
-        KeyOperation::Reset => {
-            let code = operations::reset(keys, u, two);
-            Operated { word: 0, code }
-        }
+    Served {
+        answer,
+        processor: p,
     }
 }
 
@@ -62,26 +45,12 @@ pub fn key_instruction(
     ensures { λ r. ⌜ outcome (r .answer) (now (storage .entry)) (now (keys .exit)) (r .processor) []
         ≡ step settings (now (storage .entry)) (now (keys .entry)) p (Request.Key instruction) [] ⌝ }
 {
-    let decoded = decode::decode(instruction);
-    let verdict = checks::verdict(settings, storage.len(), keys.len(), p, decoded);
-    if stops(verdict) {
-        return Served {
-            answer: answer_of(verdict, 0, 0),
-            processor: p,
-        };
-    }
-    let block = prefixed(p.prefix, decoded.block);
-    let two = decoded.extended & !settings.four_k;
-    let operation = decoded.operation;
-    let u = unit_of(settings, block.absolute as usize);
-    let operated = perform(keys, p.code, u, two, operation);
-    let mut processor = p;
-    processor.code = operated.code;
-    Served {
-        answer: Answer::Completed {
-            word: operated.word,
-            rule: block.rule,
-        },
-        processor,
+    match instruction {
+        KeyInstruction::Isk { r1, r2 } => unchanged(isk(settings, storage, keys, p, r1, r2), p),
+        KeyInstruction::Ssk { r1, r2 } => unchanged(ssk(settings, storage, keys, p, r1, r2), p),
+        KeyInstruction::Rrb { address } => rrb(settings, storage, keys, p, address),
+        KeyInstruction::Iske { r1, r2 } => unchanged(iske(settings, storage, keys, p, r1, r2), p),
+        KeyInstruction::Sske { r1, r2 } => unchanged(sske(settings, storage, keys, p, r1, r2), p),
+        KeyInstruction::Rrbe { r2 } => rrbe(settings, storage, keys, p, r2),
     }
 }

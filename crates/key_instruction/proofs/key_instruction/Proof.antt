@@ -1,76 +1,139 @@
--- `key_instruction` is the step: where the verdict stops, by the law of refused instructions; else the keys are in the array, and what the
--- operation leaves is the step. Assumes nothing.
-use Rattle.key_instruction.proofs.Steps.{refused, keys-inside, operated}
+-- `key_instruction` is the step: by the instruction, whose function is its step. Assumes nothing.
 use borrow.Author.Needs.{needs}
 use Rattle.key_instruction.proofs.key_instruction.Statement.{statement}
 use Rattle.key_instruction.proofs.key_instruction.Tie as tie
 
-decode-requires : tie.Need-decode-requires
-decode-requires c κs = search needs
+enum-known-instruction : tie.Need-enum-known-instruction
+enum-known-instruction c = search needs
 
-verdict-requires : tie.Need-verdict-requires
-verdict-requires c κs = search needs
+isk-requires : tie.Need-isk-requires
+isk-requires c κs = search needs
 
-stops-requires : tie.Need-stops-requires
-stops-requires c κs = search needs
+unchanged-requires : tie.Need-unchanged-requires
+unchanged-requires c κs = search needs
 
-answer-of-requires : tie.Need-answer-of-requires
-answer-of-requires c κs = search needs
+enum-known-instruction-2 : tie.Need-enum-known-instruction-2
+enum-known-instruction-2 c = search needs
 
-returns : tie.Need-returns
-returns c =
-    let stopped = c .before in
-    let asked = stopped .before in
-    let judged = asked .before in
-    rw (c .answer-of .ensures)
-    (refused _ _ _ _ _ (judged .before .decode .ensures) (judged .verdict .ensures) (asked .stops .ensures) (stopped .if1 .taken))
+ssk-requires : tie.Need-ssk-requires
+ssk-requires c κs = search needs
 
-prefixed-requires : tie.Need-prefixed-requires
-prefixed-requires c κs = search needs
+unchanged-requires-2 : tie.Need-unchanged-requires-2
+unchanged-requires-2 c κs = search needs
 
-cast-unit-of : tie.Need-cast-unit-of
-cast-unit-of c = search needs
+enum-known-instruction-3 : tie.Need-enum-known-instruction-3
+enum-known-instruction-3 c = search needs
 
-unit-of-requires : tie.Need-unit-of-requires
-unit-of-requires c κs = search needs
+rrb-requires : tie.Need-rrb-requires
+rrb-requires c κs = search needs
 
-perform-requires : tie.Need-perform-requires
-perform-requires c κs =
-    let placed = c .before in
-    let block = placed .before .before .before .before in
-    let clear = block .before in
-    let asked = clear .before in
-    let judged = asked .before in
-    rw (placed .unit-of .ensures, block .prefixed .ensures)
-    (keys-inside _ _ _ _ _ (judged .before .decode .ensures) (judged .verdict .ensures) (asked .stops .ensures) (clear .if1 .left))
+enum-known-instruction-4 : tie.Need-enum-known-instruction-4
+enum-known-instruction-4 c = search needs
+
+iske-requires : tie.Need-iske-requires
+iske-requires c κs = search needs
+
+unchanged-requires-3 : tie.Need-unchanged-requires-3
+unchanged-requires-3 c κs = search needs
+
+enum-known-instruction-5 : tie.Need-enum-known-instruction-5
+enum-known-instruction-5 c = search needs
+
+sske-requires : tie.Need-sske-requires
+sske-requires c κs = search needs
+
+unchanged-requires-4 : tie.Need-unchanged-requires-4
+unchanged-requires-4 c κs = search needs
+
+enum-known-instruction-6 : tie.Need-enum-known-instruction-6
+enum-known-instruction-6 c = search needs
+
+rrbe-requires : tie.Need-rrbe-requires
+rrbe-requires c κs = search needs
 
 same-length : tie.Need-same-length
 same-length c = search needs
 
+returns : tie.Need-returns
+returns c =
+    let done = c .before in
+    let told = done .before .before .before in
+    rw (c .unchanged .ensures, told .instruction .given .1) (done .isk .ensures)
+
+same-length-2 : tie.Need-same-length-2
+same-length-2 c = search needs
+
 returns-2 : tie.Need-returns-2
 returns-2 c =
+    let done = c .before .before .before in
+    let told = done .before .before .before in
+    rw (c .unchanged2 .ensures, told .instruction2 .given .1) (done .ssk .ensures)
+
+same-length-3 : tie.Need-same-length-3
+same-length-3 c = search needs
+
+returns-3 : tie.Need-returns-3
+returns-3 c =
     let done = c .before .before in
-    let placed = done .before .before in
-    let block = placed .before .before .before .before in
-    let clear = block .before in
-    let asked = clear .before in
-    let judged = asked .before in
-    let (word, (keys, code)) = done .perform .ensures in
-    rw (word, keys, code, placed .unit-of .ensures, block .prefixed .ensures)
-    (operated _ _ _ _ _ (judged .before .decode .ensures) (judged .verdict .ensures) (asked .stops .ensures) (clear .if1 .left))
+    let told = done .before .before .before in
+    rw (told .instruction3 .given .1) (done .rrb .ensures)
+
+same-length-4 : tie.Need-same-length-4
+same-length-4 c = search needs
+
+returns-4 : tie.Need-returns-4
+returns-4 c =
+    let done = c .before in
+    let told = done .before .before .before in
+    rw (c .unchanged3 .ensures, told .instruction4 .given .1) (done .iske .ensures)
+
+same-length-5 : tie.Need-same-length-5
+same-length-5 c = search needs
+
+returns-5 : tie.Need-returns-5
+returns-5 c =
+    let done = c .before .before .before in
+    let told = done .before .before .before in
+    rw (c .unchanged4 .ensures, told .instruction5 .given .1) (done .sske .ensures)
+
+same-length-6 : tie.Need-same-length-6
+same-length-6 c = search needs
+
+returns-6 : tie.Need-returns-6
+returns-6 c =
+    let done = c .before .before in
+    let told = done .before .before .before in
+    rw (told .instruction6 .given .1) (done .rrbe .ensures)
 
 pub key-instruction-spec : {M : Type 1} → statement M
 key-instruction-spec =
     tie.close
     (tie.spec
-    decode-requires
-    verdict-requires
-    stops-requires
-    answer-of-requires
-    returns
-    prefixed-requires
-    cast-unit-of
-    unit-of-requires
-    perform-requires
+    enum-known-instruction
+    isk-requires
+    unchanged-requires
+    enum-known-instruction-2
+    ssk-requires
+    unchanged-requires-2
+    enum-known-instruction-3
+    rrb-requires
+    enum-known-instruction-4
+    iske-requires
+    unchanged-requires-3
+    enum-known-instruction-5
+    sske-requires
+    unchanged-requires-4
+    enum-known-instruction-6
+    rrbe-requires
     same-length
-    returns-2)
+    returns
+    same-length-2
+    returns-2
+    same-length-3
+    returns-3
+    same-length-4
+    returns-4
+    same-length-5
+    returns-5
+    same-length-6
+    returns-6)

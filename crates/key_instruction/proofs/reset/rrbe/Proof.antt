@@ -1,0 +1,76 @@
+-- `rrbe` is the step of its instruction: refused where its lines stop, else what the operation leaves. Assumes nothing.
+use Rattle.machine.specs.declared.KeyInstruction.the-variants.{Rrbe}
+use Rattle.machine.specs.KeyInstructions.{wordGiven, codeLeft}
+use Rattle.key_instruction.proofs.Steps.{Judged, refused, keys-inside, operated}
+use borrow.Author.Needs.{needs}
+use Rattle.key_instruction.proofs.reset.rrbe.Statement.{statement}
+use Rattle.key_instruction.proofs.reset.rrbe.Tie as tie
+
+block-4k-requires : tie.Need-block-4k-requires
+block-4k-requires c κs = search needs
+
+extended-lines-requires : tie.Need-extended-lines-requires
+extended-lines-requires c κs = search needs
+
+stops-requires : tie.Need-stops-requires
+stops-requires c κs = search needs
+
+answer-of-requires : tie.Need-answer-of-requires
+answer-of-requires c κs = search needs
+
+unchanged-requires : tie.Need-unchanged-requires
+unchanged-requires c κs = search needs
+
+judged : (c : tie.After-stops)
+    → let lines = c .before in
+    let a = lines .before .before .before .before .args in
+    Judged (a .settings) (a .storage .now) (a .keys .now) (a .p) (Rrbe (a .r2)) (lines .before .block-4k .result) (lines .extended-lines .result) (c .stops .result)
+judged c =
+    let lines = c .before in
+    record { designates = lines .before .block-4k .ensures; lines = lines .extended-lines .ensures; asked = c .stops .ensures }
+
+returns : tie.Need-returns
+returns c =
+    let answered = c .before in
+    let stopped = answered .before in
+    rw (c .unchanged .ensures, answered .answer-of .ensures) (refused (judged (stopped .before)) (stopped .if1 .taken))
+
+found-at-requires : tie.Need-found-at-requires
+found-at-requires c κs = search needs
+
+reset-requires : tie.Need-reset-requires
+reset-requires c κs =
+    let placed = c .before .before in
+    let clear = placed .before in
+    rw (placed .found-at .ensures) (keys-inside (judged (clear .before)) (clear .if1 .left))
+
+completed-requires : tie.Need-completed-requires
+completed-requires c κs = search needs
+
+same-length : tie.Need-same-length
+same-length c = search needs
+
+returns-2 : tie.Need-returns-2
+unfolding wordGiven codeLeft
+returns-2 c =
+    let done = c .before .before .before in
+    let placed = done .before .before .before in
+    let (keys, code) = done .reset .ensures in
+    let clear = placed .before in
+    rw (c .completed .ensures, keys, code, placed .found-at .ensures) (operated (judged (clear .before)) (clear .if1 .left))
+
+pub rrbe-spec : {M : Type 1} → statement M
+rrbe-spec =
+    tie.close
+    (tie.spec
+    block-4k-requires
+    extended-lines-requires
+    stops-requires
+    answer-of-requires
+    unchanged-requires
+    returns
+    found-at-requires
+    reset-requires
+    completed-requires
+    same-length
+    returns-2)

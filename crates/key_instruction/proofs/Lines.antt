@@ -1,9 +1,8 @@
 -- The lines that the code takes are the table's. A line that an instruction can't meet does not count, and lines 64 and 65 as one verdict are
 -- the two of them one after the other. Assumes nothing.
 use Prim.Native.Nat.{ℕ, _%_}
-use mathlib.Core.Path.{_≡_, refl, sym, _∙_}
+use mathlib.Core.Path.{_≡_, refl, _∙_}
 use mathlib.Core.Bool.{Bool, true, false, not}
-use mathlib.Core.List.{List, [], _∷_}
 use native.Mathlib.Nat.{div-one}
 use lib.Dec.{eqb, leb}
 use Rattle.machine.specs.declared.Settings.{Settings}
@@ -11,14 +10,12 @@ use Rattle.machine.specs.declared.Processor.{Processor}
 use Rattle.machine.specs.declared.KeyInstruction.{KeyInstruction}
 use Rattle.machine.specs.declared.KeyInstruction.the-variants.{Isk, Ssk, Rrb, Iske, Sske, Rrbe}
 use Rattle.machine.specs.declared.Request.the-variants.{Key}
-use Rattle.machine.specs.declared.Reason.{Reason}
 use Rattle.machine.specs.declared.Verdict.{Verdict}
-use Rattle.machine.specs.declared.Verdict.the-variants.{Stop}
 use Rattle.machine.specs.Numbers.{operandLimit}
 use Rattle.machine.specs.Answers.{stops, line, firstOf, firstLine}
 use Rattle.machine.specs.KeyInstructions.{designated}
 use Rattle.machine.specs.Table.{addressing, beforeProtection}
-use Rattle.machine.proofs.Verdicts.{stopped-first, passed-first, first-none, first-assoc}
+use Rattle.machine.proofs.Verdicts.{stopped-first, passed-first, first-assoc}
 use Rattle.key_instruction.specs.Lines.{basicLines, extendedLines}
 
 -- the lines that the code takes for an instruction with the block at this address. Bits 28-31 are the rightmost of a word
@@ -40,26 +37,10 @@ lines-of-table s storageLength keyLength p (Iske r1 r2) = refl
 lines-of-table s storageLength keyLength p (Sske r1 r2) = refl
 lines-of-table s storageLength keyLength p (Rrbe r2) = refl
 
--- v is the first of two lines, and x is whether it stops: it is the verdict, or the lines after it are
+-- v is the first of two lines, and x is whether it stops: it is the verdict, or the lines below are
 module _ (a b : Verdict) {v : Verdict} {x : Bool} (found : v ≡ firstOf a b) (asked : x ≡ stops v) where
-  pub first-two-stop : x ≡ true → (rest : List Verdict) → v ≡ firstLine (a ∷ b ∷ rest)
-  unfolding firstLine
-  first-two-stop e rest = stopped-first a b found asked e (firstLine rest) ∙ first-assoc a b (firstLine rest)
+  pub first-two-stop : x ≡ true → (below : Verdict) → v ≡ firstOf a (firstOf b below)
+  first-two-stop e below = stopped-first a b found asked e below ∙ first-assoc a b below
 
-  pub first-two-pass : x ≡ false → (rest : List Verdict) {r : Verdict} → r ≡ firstLine rest → r ≡ firstLine (a ∷ b ∷ rest)
-  unfolding firstLine
-  first-two-pass e rest after = passed-first a b found asked e after ∙ first-assoc a b (firstLine rest)
-
--- one more line, by its test
-module _ (r : Reason) {b : Bool} (rest : List Verdict) {v : Verdict} where
-  pub line-stops : b ≡ true → v ≡ Stop r 0 → v ≡ firstLine (line r b ∷ rest)
-  unfolding firstLine firstOf line
-  line-stops e stopped = rw e stopped
-
-  pub line-passes : b ≡ false → v ≡ firstLine rest → v ≡ firstLine (line r b ∷ rest)
-  unfolding firstLine firstOf line
-  line-passes e after = rw e after
-
-pub last-line : {v w : Verdict} → v ≡ w → v ≡ firstLine (w ∷ [])
-unfolding firstLine
-last-line {w} e = e ∙ sym (first-none w)
+  pub first-two-pass : x ≡ false → {below r : Verdict} → r ≡ below → r ≡ firstOf a (firstOf b below)
+  first-two-pass e {below} same = passed-first a b found asked e same ∙ first-assoc a b below

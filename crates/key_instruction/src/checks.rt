@@ -4,18 +4,10 @@ use machine::Processor;
 use machine::Reason;
 use machine::Settings;
 use machine::Verdict;
-use machine::answers::refuse;
 use machine::answers::stops;
 use machine::numbers::valid;
 ghost use mathlib.Core.Path.{_≡_};
 ghost use Rattle.key_instruction.specs.Lines.{basicLines, extendedLines};
-
-// A line that refuses the instruction.
-fn stop(reason: Reason) -> Verdict
-    ensures { λ r. ⌜ r ≡ Verdict.Stop reason 0 ⌝ }
-{
-    Verdict::Stop { reason, place: 0 }
-}
 
 // Lines 64, 65, 66, 2, 19, 6 and 5. The caller says whether the address of RRB is invalid, and whether any of bits 28-31 of R2 of ISK or
 // SSK is on.
@@ -35,18 +27,26 @@ pub(crate) fn basic_lines(
         return machine;
     }
     if address_invalid {
-        return stop(Reason::Operand);
+        let reason = Reason::Operand;
+        return Verdict::Stop { reason, place: 0 };
     }
     if p.problem {
-        return stop(Reason::Privileged);
+        let reason = Reason::Privileged;
+        return Verdict::Stop { reason, place: 0 };
     }
     if settings.four_k & !p.key_control {
-        return stop(Reason::SpecialOperation);
+        let reason = Reason::SpecialOperation;
+        return Verdict::Stop { reason, place: 0 };
     }
     if low_bits_on {
-        return stop(Reason::Specification);
+        let reason = Reason::Specification;
+        return Verdict::Stop { reason, place: 0 };
     }
-    refuse(Reason::Addressing, storage_length <= block as usize)
+    if storage_length <= block as usize {
+        let reason = Reason::Addressing;
+        return Verdict::Stop { reason, place: 0 };
+    }
+    Verdict::Clear
 }
 
 // Lines 64, 65, 1, 2 and 5.
@@ -64,10 +64,16 @@ pub(crate) fn extended_lines(
         return machine;
     }
     if !settings.extensions {
-        return stop(Reason::Operation);
+        let reason = Reason::Operation;
+        return Verdict::Stop { reason, place: 0 };
     }
     if p.problem {
-        return stop(Reason::Privileged);
+        let reason = Reason::Privileged;
+        return Verdict::Stop { reason, place: 0 };
     }
-    refuse(Reason::Addressing, storage_length <= block as usize)
+    if storage_length <= block as usize {
+        let reason = Reason::Addressing;
+        return Verdict::Stop { reason, place: 0 };
+    }
+    Verdict::Clear
 }

@@ -17,7 +17,7 @@ ghost use mathlib.Core.Path.{_≡_};
 ghost use mathlib.Core.List.{[]};
 ghost use Rattle.machine.specs.Step.{outcome, step};
 
-// ISK: of the unit that holds a 2K block.
+// ISK, on the key of the unit that holds a 2K block.
 pub fn isk(
     settings: Settings,
     storage: &[u8],
@@ -50,7 +50,7 @@ pub fn isk(
     }
 }
 
-// ISKE: of a 4K block, on its two keys or, with the 4K facility, on its one.
+// ISKE, on the two keys of a 4K block or, with the 4K facility, on its one key.
 pub fn iske(
     settings: Settings,
     storage: &[u8],

@@ -32,7 +32,7 @@ fn completed(p: Processor, code: u8, rule: u32) -> Served
     }
 }
 
-// RRB: of the unit that holds a 2K block.
+// RRB, on the key of the unit that holds a 2K block.
 pub fn rrb(
     settings: Settings,
     storage: &[u8],
@@ -61,7 +61,7 @@ pub fn rrb(
     completed(p, code, at.rule)
 }
 
-// RRBE: of a 4K block, on its two keys or, with the 4K facility, on its one.
+// RRBE, on the two keys of a 4K block or, with the 4K facility, on its one key.
 pub fn rrbe(settings: Settings, storage: &[u8], keys: &mut [u8], p: Processor, r2: u32) -> Served
     ensures { λ r. ⌜ outcome (r .answer) (now (storage .entry)) (now (keys .exit)) (r .processor) []
         ≡ step settings (now (storage .entry)) (now (keys .entry)) p (Request.Key (KeyInstruction.Rrbe r2)) [] ⌝ }

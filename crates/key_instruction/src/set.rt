@@ -17,7 +17,7 @@ ghost use mathlib.Core.Path.{_≡_};
 ghost use mathlib.Core.List.{[]};
 ghost use Rattle.machine.specs.Step.{outcome, step};
 
-// SSK: of the unit that holds a 2K block.
+// SSK, on the key of the unit that holds a 2K block.
 pub fn ssk(
     settings: Settings,
     storage: &[u8],
@@ -50,7 +50,7 @@ pub fn ssk(
     }
 }
 
-// SSKE: of a 4K block, on its two keys or, with the 4K facility, on its one.
+// SSKE, on the two keys of a 4K block or, with the 4K facility, on its one key.
 pub fn sske(
     settings: Settings,
     storage: &[u8],

@@ -18,10 +18,12 @@ stops-requires c κs = search needs
 answer-of-requires : tie.Need-answer-of-requires
 answer-of-requires c κs = search needs
 
+-- what is found where the verdict is asked whether it stops
 judged : (c : tie.After-stops)
     → let lines = c .before in
     let a = lines .before .before .before .before .args in
-    Judged (a .settings) (a .storage .now) (a .keys .now) (a .p) (Iske (a .r1) (a .r2)) (lines .before .block-4k .result) (lines .extended-lines .result) (c .stops .result)
+    Judged (a .settings) (a .storage .now) (a .keys .now) (a .p) (Iske (a .r1) (a .r2))
+    (lines .before .block-4k .result) (lines .extended-lines .result) (c .stops .result)
 judged c =
     let lines = c .before in
     record { designates = lines .before .block-4k .ensures; lines = lines .extended-lines .ensures; asked = c .stops .ensures }

@@ -21,10 +21,12 @@ answer-of-requires c κs = search needs
 unchanged-requires : tie.Need-unchanged-requires
 unchanged-requires c κs = search needs
 
+-- what is found where the verdict is asked whether it stops
 judged : (c : tie.After-stops)
     → let lines = c .before in
     let a = lines .before .before .before .before .args in
-    Judged (a .settings) (a .storage .now) (a .keys .now) (a .p) (Rrb (a .address)) (lines .before .block-2k .result) (lines .basic-lines .result) (c .stops .result)
+    Judged (a .settings) (a .storage .now) (a .keys .now) (a .p) (Rrb (a .address))
+    (lines .before .block-2k .result) (lines .basic-lines .result) (c .stops .result)
 judged c =
     let lines = c .before in
     record { designates = lines .before .block-2k .ensures; lines = lines .basic-lines .ensures; asked = c .stops .ensures }

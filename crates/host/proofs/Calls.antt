@@ -2,7 +2,7 @@
 -- its bytes are known, and what is written over them is the record that the step leaves. Assumes nothing.
 use Prim.Native.Nat.{ℕ, _+_, _<_}
 use mathlib.Core.Path.{_≡_, refl, sym, ap, subst, _∙_}
-use mathlib.Core.Bool.{Bool, true, false, not}
+use mathlib.Core.Bool.{Bool, true, false, not, _&&_}
 use mathlib.Core.Logic.{_≢_}
 use mathlib.Core.List.{List}
 use native.Mathlib.Decide.{ℕ-discrete}
@@ -13,19 +13,22 @@ use Rattle.machine.specs.declared.Processor.{Processor}
 use Rattle.machine.specs.declared.Request.{Request}
 use Rattle.machine.specs.declared.Answer.{Answer}
 use Rattle.machine.specs.Lists.{written}
-use Rattle.machine.specs.Numbers.{recordValid}
-use Rattle.machine.specs.Answers.{numberOf, values, answerOf}
+use Rattle.machine.specs.Numbers.{lengthsValid, recordValid}
+use Rattle.machine.specs.Answers.{numberOf, values, line, firstOf, firstLine, answerOf, stops}
+use Rattle.machine.specs.Table.{beforeProtection, verdict}
 use Rattle.machine.specs.Step.{withCode, withPrefix, outcome, step}
 use Rattle.machine.specs.Pair.{withoutRecord}
 use Rattle.machine.proofs.AbsoluteAddress.{record-tested}
 use Rattle.machine.proofs.BeforeProtection.{cleared}
 use Rattle.machine.proofs.Conditions.{answer-in-table}
 use Rattle.machine.proofs.OwnRecord.{wrong-record}
-use Rattle.machine.proofs.Requests.{refused-changes-nothing, completed-cleared, controls-stay}
-use Rattle.host.specs.Boundary.{reservedZeroAt, recordAt, recordBytes, packed, Packs, callOutcome, recordsLeft, callServed, CallCondition1}
+use Rattle.machine.proofs.Requests.{refused-request, refused-changes-nothing, completed-cleared, controls-stay}
+use Rattle.host.specs.Boundary.{recordAt, recordBytes, packed, Packs, callOutcome, recordsLeft, callServed, CallCondition1}
 use Rattle.host.specs.Serving.{Met}
+use Rattle.host.specs.Words.{wordAt, stateValid}
 use Rattle.host.specs.Writing.{recordPut}
 use Rattle.host.proofs.Records.{Holds, valid-record-is-written, record-put, same-put}
+use Rattle.host.proofs.Words.{state-wrong}
 
 -- condition 1 of a call that changes nothing, whatever its answer
 pub nothing-changes : (answer : Answer) {result : ℕ} {storage keys bytes buffer storage′ keys′ bytes′ buffer′ : List ℕ} → Packs result answer
@@ -41,11 +44,6 @@ turned-true false e = refl
 pub turned-false : (b : Bool) → not b ≡ false → b ≡ true
 turned-false true e = refl
 turned-false false e = sym e
-
--- a record with a reserved bit on is one that line 65 refuses
-pub reserved-wrong : (bytes : List ℕ) (at storageLength : ℕ) → reservedZeroAt bytes at ≡ false
-    → recordValid storageLength (recordAt bytes at) ≡ false
-reserved-wrong bytes at storageLength on = rw on refl
 
 -- The request of a processor whose record p stands in the bytes from `at` on leaves these, and q as its record.
 module _ (bytes : List ℕ) (s : Settings) (storage keys : List ℕ) (at : ℕ) {p : Processor} (r : Request) (buffer : List ℕ)
@@ -109,12 +107,36 @@ module _ (bytes : List ℕ) (s : Settings) (storage keys : List ℕ) (at : ℕ) 
       go (yes zero) = completed-call zero
       go (no d) = refused-call d
 
--- both conditions of a call whose record has a reserved bit on: it is refused as one that has no record
-pub reserved-call : (bytes : List ℕ) (s : Settings) (storage keys : List ℕ) (at : ℕ) (r : Request) (buffer : List ℕ) {result : ℕ}
-    → reservedZeroAt bytes at ≡ false → ((i : ℕ) → getD bytes i 0 < 256)
+-- both conditions of a call that leaves the record as it is
+pub kept-call : (bytes : List ℕ) (s : Settings) (storage keys : List ℕ) (at : ℕ) {p : Processor} (r : Request) (buffer : List ℕ)
+    (answer : Answer) {storage′ keys′ buffer′ : List ℕ} {result : ℕ}
+    → p ≡ recordAt bytes at → outcome answer storage′ keys′ p buffer′ ≡ step s storage keys p r buffer
+    → ((i : ℕ) → getD bytes i 0 < 256) → Packs result answer → Met s r at result storage keys bytes buffer storage′ keys′ bytes buffer′
+kept-call bytes s storage keys at {p} r buffer answer read stepped byte given =
+    served-call bytes s storage keys at r buffer answer read stepped byte (sym (same-put bytes at p read)) given
+
+-- lengths that line 64 refuses, whatever the record
+wrong-lengths : (s : Settings) (storage keys : List ℕ) (p : Processor) (r : Request) (buffer : List ℕ)
+    → lengthsValid s (length storage) (length keys) ≡ false
+    → outcome (answerOf (withoutRecord s (length storage) (length keys)) 0 0) storage keys p buffer ≡ step s storage keys p r buffer
+unfolding firstOf firstLine line verdict beforeProtection
+wrong-lengths s storage keys p r buffer wrong = refused-request s storage keys p r buffer found 0 0 stopped
+  where
+    found : withoutRecord s (length storage) (length keys) ≡ verdict s (length storage) keys p r (length buffer)
+    found = rw wrong refl
+
+    stopped : stops (withoutRecord s (length storage) (length keys)) ≡ true
+    stopped = rw wrong refl
+
+-- Both conditions of a call that is refused by line 64 or 65, by lengths or state: it is refused as one that has no record.
+pub wrong-call : (bytes : List ℕ) (s : Settings) (storage keys : List ℕ) (at : ℕ) (r : Request) (buffer : List ℕ) {result : ℕ}
+    → ((i : ℕ) → getD bytes i 0 < 256) → lengthsValid s (length storage) (length keys) && stateValid (wordAt bytes at) ≡ false
     → Packs result (answerOf (withoutRecord s (length storage) (length keys)) 0 0) → Met s r at result storage keys bytes buffer storage keys bytes buffer
-reserved-call bytes s storage keys at r buffer on byte given =
-    let p = recordAt bytes at in
-    let stepped = wrong-record s storage keys p r buffer (reserved-wrong bytes at (length storage) on) in
-    served-call bytes s storage keys at r buffer (answerOf (withoutRecord s (length storage) (length keys)) 0 0) refl stepped byte
-    (sym (same-put bytes at p refl)) given
+wrong-call bytes s storage keys at r buffer byte wrong given =
+    kept-call bytes s storage keys at r buffer (answerOf (withoutRecord s (length storage) (length keys)) 0 0) refl (go _ refl) byte given
+  where
+    go : (b : Bool) → lengthsValid s (length storage) (length keys) ≡ b
+        → outcome (answerOf (withoutRecord s (length storage) (length keys)) 0 0) storage keys (recordAt bytes at) buffer
+        ≡ step s storage keys (recordAt bytes at) r buffer
+    go true e = wrong-record s storage keys (recordAt bytes at) r buffer (state-wrong bytes at byte (length storage) (rw e at wrong))
+    go false e = wrong-lengths s storage keys (recordAt bytes at) r buffer e

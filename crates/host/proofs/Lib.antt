@@ -2,4 +2,5 @@
 pub mod Laws
 pub mod Calls
 pub mod Records
+pub mod Words
 pub mod PairCalls

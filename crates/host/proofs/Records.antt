@@ -89,7 +89,7 @@ three-bits : (c : ℕ) → c < 8 → c ≡ joined (bit 1 c) (bit 2 c) (bit 4 c)
 three-bits c h =
     rw (value-of-bit (c / 1 % 2) 1 (omega arith), value-of-bit (c / 2 % 2) 2 (omega arith), value-of-bit (c / 4 % 2) 4 (omega arith)) (omega arith)
 
-prefix-bytes : (a b c d : ℕ) → a < 256 → b < 256 → c < 256 → d < 256 → let x = a + b * 256 + c * 65536 + d * 16777216 in
+pub prefix-bytes : (a b c d : ℕ) → a < 256 → b < 256 → c < 256 → d < 256 → let x = a + b * 256 + c * 65536 + d * 16777216 in
     (a ≡ x % 256) × (b ≡ x / 256 % 256) × (c ≡ x / 65536 % 256) × (d ≡ x / 16777216 % 256)
 prefix-bytes a b c d ha hb hc hd = omega arith
 

@@ -1,11 +1,12 @@
-// Settings and processor records as numbers and bytes.
+// Settings and processor records as numbers and bytes. A record is read as two words: its state, which is PSW key, controls, condition code and a
+// zero, and its prefix.
 use machine::Processor;
 use machine::Settings;
 ghost use Prim.Native.Nat.{_+_, _*_, _≤_};
 ghost use mathlib.Core.Path.{_≡_};
-ghost use mathlib.Core.Bool.{true};
 ghost use lib.ListN.{length};
-ghost use Rattle.host.specs.Boundary.{settingsOf, reservedZeroAt, recordAt};
+ghost use Rattle.host.specs.Boundary.{settingsOf};
+ghost use Rattle.host.specs.Words.{wordAt, stateValid as isStateValid, recordOf};
 ghost use Rattle.host.specs.Writing.{prefixPut, recordPut};
 
 // The settings in a number: 1 the 4K facility, 2 the extensions.
@@ -25,28 +26,37 @@ fn word(a: u8, b: u8, c: u8, d: u8) -> u32
     a as u32 + b as u32 * 256 + c as u32 * 65536 + d as u32 * 16777216
 }
 
-// The reserved bits of the record in the eight bytes from `at` on are zero.
-pub(crate) fn reserved_zero(bytes: &[u8], at: usize) -> bool
-    requires { ⌜ (length (now bytes) ≡ 16) × (at ≤ 8) ⌝ }
-    ensures { λ r. ⌜ r ≡ reservedZeroAt (now (bytes .entry)) at ⌝ }
+// The number in the four bytes from `at` on.
+pub(crate) fn word_at(bytes: &[u8], at: usize) -> u32
+    requires { ⌜ (length (now bytes) ≡ 16) × (at ≤ 12) ⌝ }
+    ensures { λ r. ⌜ r ≡ wordAt (now (bytes .entry)) at ⌝ }
 {
-    (bytes[at + 1] < 8) & (bytes[at + 3] == 0)
+    word(bytes[at], bytes[at + 1], bytes[at + 2], bytes[at + 3])
 }
 
-// The record in the eight bytes from `at` on, where its reserved bits are zero.
-pub(crate) fn record_at(bytes: &[u8], at: usize) -> Processor
-    requires { ⌜ ((length (now bytes) ≡ 16) × (at ≤ 8)) × (reservedZeroAt (now bytes) at ≡ true) ⌝ }
-    ensures { λ r. ⌜ r ≡ recordAt (now (bytes .entry)) at ⌝ }
+// The state of a record is one that a processor can have: reserved bits zero, the PSW key at most 15, the condition code at most 3. So
+// written, the compiler makes one test of the four (docs/BENCHMARK.md).
+pub fn state_valid(state: u32) -> bool
+    ensures { λ r. ⌜ r ≡ isStateValid state ⌝ }
 {
-    let controls = bytes[at + 1];
-    let prefix = word(bytes[at + 4], bytes[at + 5], bytes[at + 6], bytes[at + 7]);
+    (state / 256 % 256 < 8)
+        & (state / 16777216 == 0)
+        & (state % 256 <= 15)
+        & (state / 65536 % 256 <= 3)
+}
+
+// The record with this state, which is valid, and this prefix.
+pub fn record_of(state: u32, prefix: u32) -> Processor
+    ensures { λ r. ⌜ r ≡ recordOf state prefix ⌝ }
+{
+    let controls = state / 256 % 256;
     Processor {
-        psw_key: bytes[at],
+        psw_key: (state % 16) as u8,
         problem: controls / 1 % 2 == 1,
         low_protection: controls / 2 % 2 == 1,
         key_control: controls / 4 % 2 == 1,
         prefix,
-        code: bytes[at + 2],
+        code: (state / 65536 % 4) as u8,
     }
 }
 

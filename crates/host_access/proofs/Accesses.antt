@@ -1,7 +1,8 @@
--- A call of the short way in, by what the storage unit serves. Its record is that in the eight bytes of its number; a record with a reserved bit
--- on is refused as one that is not there. With the record of a processor of the pair it is the call of the long way in.
+-- A call of the short way in, by what the storage unit serves. Its record is that in the eight bytes of its number, of which the lesser half is
+-- the state and the greater the prefix; a record whose state is wrong is refused as one that is not there. With the record of a processor of
+-- the pair it is the call of the long way in.
 -- Assumes nothing.
-use Prim.Native.Nat.{ℕ, _+_, _*_, _/_, _%_, _<_}
+use Prim.Native.Nat.{ℕ, zero, suc, _+_, _*_, _/_, _%_, _<_}
 use mathlib.Core.Path.{_≡_, refl, ap, _∙_}
 use mathlib.Core.Bool.{Bool, true, false, cond}
 use mathlib.Core.List.{List}
@@ -29,14 +30,15 @@ use Rattle.machine.proofs.Requests.{either-way, refused-changes-nothing, comple
 use Rattle.machine.proofs.AbsoluteAddress.{record-tested}
 use Rattle.machine.proofs.BeforeProtection.{cleared}
 use Rattle.machine.proofs.Written.{written-back}
-use Rattle.host.specs.Boundary.{settingsOf, reservedZeroAt, recordAt, recordBytes, requestOf, Packs, packed}
+use Rattle.host.specs.Boundary.{settingsOf, recordAt, recordBytes, requestOf, Packs, packed}
 use Rattle.host.specs.Boundary.{callOutcome, recordsLeft, callRefused, calledWith, called}
-use Rattle.host.proofs.Calls.{reserved-wrong}
+use Rattle.host.specs.Words.{wordAt, stateValid, recordOf}
 use Rattle.host.proofs.Records.{same-record, valid-record-is-written}
+use Rattle.host.proofs.Words.{state-wrong, state-read}
 use Rattle.host_access.specs.ShortWay.{numberBytes, recordIn, accessOutcome, accessServed, accessed, AccessCondition1}
 
 -- the prefix is the four greater bytes of a number below 2^64
-pub prefix-in : (x : ℕ) → x < 18446744073709551616
+prefix-in : (x : ℕ) → x < 18446744073709551616
     → x / 4294967296 ≡ x / 4294967296 % 256 + x / 1099511627776 % 256 * 256 + x / 281474976710656 % 256 * 65536 + x / 72057594037927936 % 256 * 16777216
 prefix-in x h =
     let a : x / 4294967296 ≡ x / 4294967296 % 256 + x / 1099511627776 * 256 = omega arith in
@@ -44,6 +46,35 @@ prefix-in x h =
     let c : x / 281474976710656 ≡ x / 281474976710656 % 256 + x / 72057594037927936 * 256 = omega arith in
     let d : x / 72057594037927936 % 256 ≡ x / 72057594037927936 = omega arith in
     omega arith
+
+-- so is the state the four lesser ones
+state-in : (x : ℕ) → x % 4294967296 ≡ x % 256 + x / 256 % 256 * 256 + x / 65536 % 256 * 65536 + x / 16777216 % 256 * 16777216
+state-in x =
+    let a : x ≡ x % 256 + x / 256 * 256 = omega arith in
+    let b : x / 256 ≡ x / 256 % 256 + x / 65536 * 256 = omega arith in
+    let c : x / 65536 ≡ x / 65536 % 256 + x / 16777216 * 256 = omega arith in
+    let d : x / 16777216 ≡ x / 16777216 % 256 + x / 4294967296 * 256 = omega arith in
+    let e : x ≡ x % 4294967296 + x / 4294967296 * 4294967296 = omega arith in
+    omega arith
+
+number-byte : (x i : ℕ) → getD (numberBytes x) i 0 < 256
+number-byte x zero = omega arith
+number-byte x (suc zero) = omega arith
+number-byte x (suc (suc zero)) = omega arith
+number-byte x (suc (suc (suc zero))) = omega arith
+number-byte x (suc (suc (suc (suc zero)))) = omega arith
+number-byte x (suc (suc (suc (suc (suc zero))))) = omega arith
+number-byte x (suc (suc (suc (suc (suc (suc zero)))))) = omega arith
+number-byte x (suc (suc (suc (suc (suc (suc (suc zero))))))) = omega arith
+number-byte x (suc (suc (suc (suc (suc (suc (suc (suc i)))))))) = omega arith
+
+-- the record in a number, by its state and its prefix
+pub record-read : (x : ℕ) → x < 18446744073709551616 → stateValid (x % 4294967296) ≡ true
+    → recordOf (x % 4294967296) (x / 4294967296) ≡ recordIn x
+record-read x h valid =
+    ap (λ state. recordOf state (x / 4294967296)) (state-in x)
+    ∙ ap (recordOf (wordAt (numberBytes x) 0)) (prefix-in x h)
+    ∙ state-read (numberBytes x) 0 (number-byte x) (rw (state-in x) at valid)
 
 -- a call that changes nothing, whatever its answer
 pub nothing-changes : (answer : Answer) {result : ℕ} {storage keys bytes : List ℕ} → Packs result answer
@@ -75,13 +106,14 @@ module _ (s : Settings) (storage keys : List ℕ) (x : ℕ) (kind : AccessKind) 
     rw (given .0) (ap accessServed stepped),
   )
 
--- both conditions of a call whose record has a reserved bit on: it is refused as one that has no record
-pub reserved-access : (s : Settings) (storage keys : List ℕ) (x : ℕ) (kind : AccessKind) (address : ℕ) (bytes : List ℕ) {result : ℕ}
-    → reservedZeroAt (numberBytes x) 0 ≡ false → (given : Packs result (answerOf (withoutRecord s (length storage) (length keys)) 0 0))
+-- both conditions of a call whose record has a wrong state: it is refused as one that has no record
+pub wrong-access : (s : Settings) (storage keys : List ℕ) (x : ℕ) (kind : AccessKind) (address : ℕ) (bytes : List ℕ) {result : ℕ}
+    → stateValid (x % 4294967296) ≡ false → (given : Packs result (answerOf (withoutRecord s (length storage) (length keys)) 0 0))
     → Met s storage keys x kind address bytes (answerOf (withoutRecord s (length storage) (length keys)) 0 0) given storage keys bytes
-reserved-access s storage keys x kind address bytes on given =
+wrong-access s storage keys x kind address bytes wrong given =
+    let refused = state-wrong (numberBytes x) 0 (number-byte x) (length storage) (rw (state-in x) at wrong) in
     served-access s storage keys x kind address bytes (answerOf (withoutRecord s (length storage) (length keys)) 0 0) given
-    (wrong-record s storage keys (recordIn x) (Access kind address (length bytes)) bytes (reserved-wrong (numberBytes x) 0 (length storage) on))
+    (wrong-record s storage keys (recordIn x) (Access kind address (length bytes)) bytes refused)
 
 -- An access leaves the record of its processor; so it leaves the bytes of the records.
 module _ (s : Settings) (storage keys records : List ℕ) (at : ℕ) (kind : AccessKind) (address count : ℕ) (buffer : List ℕ)
@@ -101,10 +133,10 @@ module _ (s : Settings) (storage keys records : List ℕ) (at : ℕ) (kind : Acc
   records-stay = go (ℕ-discrete (left .answer .number) 0)
     where
       go : Dec (left .answer .number ≡ 0) → recordsLeft (left .answer .number) records at (left .processor) ≡ records
-      go (yes zero) =
-          let lines = cleared _ _ _ _ _ _ (completed-cleared s storage keys own (Access kind address count) buffer zero) in
+      go (yes number) =
+          let lines = cleared _ _ _ _ _ _ (completed-cleared s storage keys own (Access kind address count) buffer number) in
           let holds = valid-record-is-written records at (length storage) byte (record-tested (length storage) own (lines .own)) in
-          rw (eq-eqb _ _ zero)
+          rw (eq-eqb _ _ number)
           (ap (λ (p : Processor). written records (λ i. at + i) (λ i. getD (recordBytes p) i 0) 8) record-stays
           ∙ written-back records (λ i. at + i) (λ i. getD (recordBytes own) i 0) 8 holds)
       go (no d) = rw (ne-eqb _ _ d)

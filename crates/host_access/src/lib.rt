@@ -4,39 +4,30 @@
 // into an object of its own, is for speed (docs/BENCHMARK.md).
 use access::fetch;
 use access::store;
+use host::record::record_of;
 use host::record::settings_of;
+use host::record::state_valid;
 use host::refused;
 use host::request::pack;
 use machine::AccessKind;
 use machine::Answer;
-use machine::Processor;
 use machine::Reason;
+ghost use Prim.Native.Nat.{_/_, _%_};
 ghost use mathlib.Core.Path.{_≡_};
-ghost use mathlib.Core.Bool.{true};
-ghost use Rattle.host.specs.Boundary.{reservedZeroAt};
-ghost use Rattle.host_access.specs.ShortWay.{numberBytes, recordIn, accessOutcome, accessed, AccessCondition1};
+ghost use Rattle.host_access.specs.ShortWay.{accessOutcome, accessed, AccessCondition1};
 
-// The reserved bits of a record are zero.
-fn reserved_zero(record: u64) -> bool
-    ensures { λ r. ⌜ r ≡ reservedZeroAt (numberBytes «record») 0 ⌝ }
+// The state of the record in a number: its lesser half.
+fn state_in(record: u64) -> u32
+    ensures { λ r. ⌜ r ≡ «record» % 4294967296 ⌝ }
 {
-    (record / 256 % 256 < 8) & (record / 16777216 % 256 == 0)
+    (record % 4294967296) as u32
 }
 
-// The record in a number, where its reserved bits are zero.
-fn record_in(record: u64) -> Processor
-    requires { ⌜ reservedZeroAt (numberBytes «record») 0 ≡ true ⌝ }
-    ensures { λ r. ⌜ r ≡ recordIn «record» ⌝ }
+// The prefix of the record in a number: its greater half.
+fn prefix_in(record: u64) -> u32
+    ensures { λ r. ⌜ r ≡ «record» / 4294967296 ⌝ }
 {
-    let controls = record / 256 % 256;
-    Processor {
-        psw_key: (record % 256) as u8,
-        problem: controls / 1 % 2 == 1,
-        low_protection: controls / 2 % 2 == 1,
-        key_control: controls / 4 % 2 == 1,
-        prefix: (record / 4294967296) as u32,
-        code: (record / 65536 % 256) as u8,
-    }
+    (record / 4294967296) as u32
 }
 
 // A fetch of as many bytes as `bytes` has. `settings`: 1 the 4K facility, 2 the extensions. `record`: the eight bytes of the processor's own
@@ -62,10 +53,11 @@ pub extern "C" fn storage_unit_fetch(
         });
     }
     let machine = settings_of(settings);
-    if !reserved_zero(record) {
+    let state = state_in(record);
+    if !state_valid(state) {
         return refused(machine, storage.len(), keys.len());
     }
-    let p = record_in(record);
+    let p = record_of(state, prefix_in(record));
     let count = bytes.len();
     pack(fetch(machine, storage, keys, p, address, count, bytes))
 }
@@ -92,10 +84,11 @@ pub extern "C" fn storage_unit_store(
         });
     }
     let machine = settings_of(settings);
-    if !reserved_zero(record) {
+    let state = state_in(record);
+    if !state_valid(state) {
         return refused(machine, storage.len(), keys.len());
     }
-    let p = record_in(record);
+    let p = record_of(state, prefix_in(record));
     let count = bytes.len();
     pack(store(machine, storage, keys, p, address, count, bytes))
 }

@@ -1,12 +1,13 @@
--- `storage_unit_fetch` is the call of the short way in: by the settings, then by the reserved bits of the record. Assumes nothing.
-use mathlib.Core.Path.{sym, _∙_}
+-- `storage_unit_fetch` is the call of the short way in: by the settings, then by the state of the record. Assumes nothing.
+use mathlib.Core.Path.{_∙_}
+use native.Mathlib.Omega.{arith}
 use borrow.Author.Tests.{lt-ltb, le-ltb}
 use Rattle.machine.specs.declared.AccessKind.the-variants.{Fetch}
 use Rattle.machine.specs.declared.Answer.the-variants.{Refused}
 use Rattle.machine.specs.declared.Reason.the-variants.{Configuration}
 use Rattle.host.proofs.Calls.{turned-true, turned-false}
 use Rattle.host_access.specs.ShortWay.{accessed}
-use Rattle.host_access.proofs.Accesses.{nothing-changes, served-access, reserved-access}
+use Rattle.host_access.proofs.Accesses.{record-read, nothing-changes, served-access, wrong-access}
 use borrow.Author.Needs.{needs}
 use Rattle.host_access.proofs.storage_unit_fetch.Statement.{statement}
 use Rattle.host_access.proofs.storage_unit_fetch.Tie as tie
@@ -21,8 +22,11 @@ returns c = (nothing-changes (Refused Configuration 0) (c .pack .ensures), rw (c
 settings-of-requires : tie.Need-settings-of-requires
 settings-of-requires c κs = search needs
 
-reserved-zero-requires : tie.Need-reserved-zero-requires
-reserved-zero-requires c κs = search needs
+state-in-requires : tie.Need-state-in-requires
+state-in-requires c κs = search needs
+
+state-valid-requires : tie.Need-state-valid-requires
+state-valid-requires c κs = search needs
 
 refused-requires : tie.Need-refused-requires
 refused-requires c κs = search needs
@@ -32,16 +36,19 @@ unfolding accessed
 returns-2 c =
     let wrong = c .before in
     let tested = wrong .before in
-    let settled = tested .before in
-    let on = sym (tested .reserved-zero .ensures) ∙ turned-true _ (wrong .if2 .taken) in
+    let state = tested .before in
+    let settled = state .before in
+    let failed = turned-true (tested .state-valid .result) (wrong .if2 .taken) in
     let a = settled .before .before .before .before .before .args in
     rw (lt-ltb _ _ (settled .before .if1 .left), ← settled .settings-of .ensures)
-    (reserved-access _ (a .storage .now) (a .keys .now) (a .«record») Fetch (a .address) (a .bytes .now) on (c .refused .ensures))
+    (wrong-access _ (a .storage .now) (a .keys .now) (a .«record») Fetch (a .address) (a .bytes .now)
+    (rw (tested .state-valid .ensures, state .state-in .ensures) at failed) (c .refused .ensures))
 
-record-in-requires : tie.Need-record-in-requires
-record-in-requires c κs =
-    let tested = c .before in
-    sym (tested .reserved-zero .ensures) ∙ turned-false _ (c .if2 .left)
+prefix-in-requires : tie.Need-prefix-in-requires
+prefix-in-requires c κs = search needs
+
+record-of-requires : tie.Need-record-of-requires
+record-of-requires c κs = search needs
 
 fetch-requires : tie.Need-fetch-requires
 fetch-requires c κs = search needs
@@ -60,9 +67,16 @@ unfolding accessed
 returns-3 c =
     let performed = c .before .before .before .before .before in
     let read = performed .before .before .before in
-    let settled = read .before .before .before in
-    let stepped = rw (read .record-in .ensures) at (performed .fetch .ensures) in
-    let a = settled .before .before .before .before .before .args in
+    let passed = read .before .before in
+    let tested = passed .before in
+    let state = tested .before in
+    let settled = state .before in
+    let start = settled .before .before .before .before .before in
+    let a = start .args in
+    let valid = rw (tested .state-valid .ensures, state .state-in .ensures) at (turned-false (tested .state-valid .result) (passed .if2 .left)) in
+    let words = rw (state .state-in .ensures, read .before .prefix-in .ensures) at (read .record-of .ensures) in
+    let own = words ∙ record-read (a .«record») (omega (arith, start .fits .«record»)) valid in
+    let stepped = rw own at (performed .fetch .ensures) in
     rw (lt-ltb _ _ (settled .before .if1 .left), ← settled .settings-of .ensures)
     (served-access _ (a .storage .now) (a .keys .now) (a .«record») Fetch (a .address) (a .bytes .now) (performed .fetch .result) (c .pack2 .ensures) stepped)
 
@@ -73,10 +87,12 @@ storage-unit-fetch-spec =
     pack-requires
     returns
     settings-of-requires
-    reserved-zero-requires
+    state-in-requires
+    state-valid-requires
     refused-requires
     returns-2
-    record-in-requires
+    prefix-in-requires
+    record-of-requires
     fetch-requires
     pack-requires-2
     same-length

@@ -1,6 +1,6 @@
 // A request of processor 0 or 1 over the bytes of the records. Requests are told apart by their operation number, and each then makes its record of
-// the two words that were read. That no request is put together to be told apart again, here or in `storage_unit::serve`, is for speed
-// (docs/BENCHMARK.md).
+// the two words that were read. That no request is put together to be told apart again, as in `storage_unit::serve`, and that each takes its
+// record apart by itself, is for speed (docs/BENCHMARK.md).
 use crate::record::put_record;
 use crate::record::record_of;
 use crate::record::state_valid;
@@ -28,7 +28,6 @@ use machine::numbers::lengths_valid;
 use machine::numbers::valid;
 use storage_unit::prefix::prefix_instruction;
 ghost use mathlib.Core.Path.{_≡_};
-ghost use mathlib.Core.Logic.{_≢_};
 ghost use Prim.Native.Nat.{_*_, _<_, _≤_};
 ghost use lib.ListN.{length};
 ghost use Rattle.machine.specs.Answers.{answerOf, firstOf};
@@ -38,14 +37,30 @@ ghost use Rattle.host.specs.Words.{recordOf};
 ghost use Rattle.host.specs.Writing.{recordPut};
 ghost use Rattle.host.specs.Serving.{Met, MetByInstruction};
 
-// Writes what an instruction has changed of its record p, and packs its answer.
-fn write_back(records: &mut [u8], at: usize, p: Processor, served: Served) -> u64
-    requires { ⌜ (length (now records) ≡ 16) × (at ≤ 8) ⌝ }
-    ensures { λ r. ⌜ (now (records .exit) ≡ recordPut (now (records .entry)) at p (served .processor)) × (Packs r (served .answer)) ⌝ }
+// The record of a request's processor in the bytes of the records: from where on it stands, and its two words.
+struct Own {
+    at: usize,
+    state: u32,
+    prefix: u32,
+}
+
+impl Own {
+    fn record(self) -> Processor
+        ensures { λ r. ⌜ r ≡ recordOf (self .state) (self .prefix) ⌝ }
+    {
+        record_of(self.state, self.prefix)
+    }
+}
+
+// Writes what an instruction has changed of its record, and packs its answer.
+fn write_back(records: &mut [u8], own: Own, served: Served) -> u64
+    requires { ⌜ (length (now records) ≡ 16) × (own .at ≤ 8) ⌝ }
+    ensures { λ r. ⌜ (now (records .exit) ≡ recordPut (now (records .entry)) (own .at) (recordOf (own .state) (own .prefix)) (served .processor))
+        × (Packs r (served .answer)) ⌝ }
 {
     let answer = served.answer;
     let processor = served.processor;
-    put_record(records, at, p, processor);
+    put_record(records, own.at, own.record(), processor);
     pack(answer)
 }
 
@@ -57,7 +72,8 @@ fn unknown_operation(
     p: Processor,
 ) -> u64
     ensures { λ r. ⌜ Packs r
-        (answerOf (firstOf (firstOf (configuration settings «storage_length» «key_length») (ownRecord «storage_length» p)) (Verdict.Stop Reason.Operand 0)) 0 0) ⌝ }
+        (answerOf (firstOf (firstOf (configuration settings «storage_length» «key_length») (ownRecord «storage_length» p)) (Verdict.Stop Reason.Operand 0))
+        0 0) ⌝ }
 {
     let machine = valid(settings, storage_length, key_length, p);
     let operand = Verdict::Stop {
@@ -67,74 +83,60 @@ fn unknown_operation(
     pack(answer_of(first_of(machine, operand), 0, 0))
 }
 
-// A key instruction, or an operation past the last, whatever the buffer.
-fn key_words(
-    settings: Settings,
-    storage: &[u8],
-    keys: &mut [u8],
-    records: &mut [u8],
-    at: usize,
-    state: u32,
-    prefix: u32,
-    operation: u32,
-    first: u32,
-    second: u32,
-) -> u64
-    requires { ⌜ (length (now records) ≡ 16) × (at ≤ 8) × (recordOf state prefix ≡ recordAt (now records) at) ⌝ }
-    requires { ⌜ (2 ≤ operation) × (operation ≢ 8) × (operation ≢ 9) ⌝ }
-    ensures { λ r. ⌜ MetByInstruction settings (requestOf operation first second) at r (now (storage .entry)) (now (keys .entry)) (now (records .entry))
-        (now (storage .entry)) (now (keys .exit)) (now (records .exit)) ⌝ }
-{
-    match operation {
-        2 => {
-            let p = record_of(state, prefix);
-            pack(isk(settings, storage, &keys[..], p, first, second))
-        }
-        3 => {
-            let p = record_of(state, prefix);
-            pack(ssk(settings, storage, keys, p, first, second))
-        }
-        4 => {
-            let p = record_of(state, prefix);
-            write_back(records, at, p, rrb(settings, storage, keys, p, second))
-        }
-        5 => {
-            let p = record_of(state, prefix);
-            pack(iske(settings, storage, &keys[..], p, first, second))
-        }
-        6 => {
-            let p = record_of(state, prefix);
-            pack(sske(settings, storage, keys, p, first, second))
-        }
-        7 => {
-            let p = record_of(state, prefix);
-            write_back(records, at, p, rrbe(settings, storage, keys, p, second))
-        }
-        _ => {
-            let p = record_of(state, prefix);
-            unknown_operation(settings, storage.len(), keys.len(), p)
-        }
-    }
-}
-
 // A prefix instruction, whatever the buffer.
 fn prefix_words(
     settings: Settings,
     storage: &[u8],
     keys: &[u8],
     records: &mut [u8],
-    at: usize,
-    state: u32,
-    prefix: u32,
+    own: Own,
     instruction: PrefixInstruction,
 ) -> u64
-    requires { ⌜ (length (now records) ≡ 16) × (at ≤ 8) × (recordOf state prefix ≡ recordAt (now records) at) ⌝ }
-    ensures { λ r. ⌜ MetByInstruction settings (Request.Prefix instruction) at r (now (storage .entry)) (now (keys .entry)) (now (records .entry))
-        (now (storage .entry)) (now (keys .entry)) (now (records .exit)) ⌝ }
+    requires { ⌜ (length (now records) ≡ 16) × (own .at ≤ 8) × (recordOf (own .state) (own .prefix) ≡ recordAt (now records) (own .at)) ⌝ }
+    ensures { λ r. ⌜ MetByInstruction settings (Request.Prefix instruction) (own .at) r
+        (now (storage .entry)) (now (keys .entry)) (now (records .entry)) (now (storage .entry)) (now (keys .entry)) (now (records .exit)) ⌝ }
 {
-    let p = record_of(state, prefix);
-    let served = prefix_instruction(settings, storage, keys, p, instruction);
-    write_back(records, at, p, served)
+    let served = prefix_instruction(settings, storage, keys, own.record(), instruction);
+    write_back(records, own, served)
+}
+
+// An instruction, or an operation past the last, whatever the buffer.
+fn instruction_words(
+    settings: Settings,
+    storage: &[u8],
+    keys: &mut [u8],
+    records: &mut [u8],
+    own: Own,
+    operation: u32,
+    r1: u32,
+    r2: u32,
+) -> u64
+    requires { ⌜ (length (now records) ≡ 16) × (own .at ≤ 8) × (recordOf (own .state) (own .prefix) ≡ recordAt (now records) (own .at)) ⌝ }
+    requires { ⌜ 2 ≤ operation ⌝ }
+    ensures { λ r. ⌜ MetByInstruction settings (requestOf operation r1 r2) (own .at) r
+        (now (storage .entry)) (now (keys .entry)) (now (records .entry)) (now (storage .entry)) (now (keys .exit)) (now (records .exit)) ⌝ }
+{
+    match operation {
+        2 => pack(isk(settings, storage, &keys[..], own.record(), r1, r2)),
+        3 => pack(ssk(settings, storage, keys, own.record(), r1, r2)),
+        4 => write_back(records, own, rrb(settings, storage, keys, own.record(), r2)),
+        5 => pack(iske(settings, storage, &keys[..], own.record(), r1, r2)),
+        6 => pack(sske(settings, storage, keys, own.record(), r1, r2)),
+        7 => write_back(
+            records,
+            own,
+            rrbe(settings, storage, keys, own.record(), r2),
+        ),
+        8 => {
+            let instruction = PrefixInstruction::SetPrefix { word: r1 };
+            prefix_words(settings, storage, &keys[..], records, own, instruction)
+        }
+        9 => {
+            let instruction = PrefixInstruction::StorePrefix;
+            prefix_words(settings, storage, &keys[..], records, own, instruction)
+        }
+        _ => unknown_operation(settings, storage.len(), keys.len(), own.record()),
+    }
 }
 
 // A request whose processor has its record in these two words.
@@ -143,63 +145,33 @@ fn serve_words(
     storage: &mut [u8],
     keys: &mut [u8],
     records: &mut [u8],
-    at: usize,
-    state: u32,
-    prefix: u32,
+    own: Own,
     operation: u32,
     first: u32,
     second: u32,
     buffer: &mut [u8],
 ) -> u64
-    requires { ⌜ (length (now records) ≡ 16) × (at ≤ 8) × (recordOf state prefix ≡ recordAt (now records) at) ⌝ }
-    ensures { λ r. ⌜ Met settings (requestOf operation first second) at r
+    requires { ⌜ (length (now records) ≡ 16) × (own .at ≤ 8) × (recordOf (own .state) (own .prefix) ≡ recordAt (now records) (own .at)) ⌝ }
+    ensures { λ r. ⌜ Met settings (requestOf operation first second) (own .at) r
         (now (storage .entry)) (now (keys .entry)) (now (records .entry)) (now (buffer .entry))
         (now (storage .exit)) (now (keys .exit)) (now (records .exit)) (now (buffer .exit)) ⌝ }
 {
     let n = second as usize;
     match operation {
         0 => {
-            let p = record_of(state, prefix);
+            let p = own.record();
             pack(fetch(settings, &storage[..], keys, p, first, n, buffer))
         }
         1 => {
-            let p = record_of(state, prefix);
+            let p = own.record();
             pack(store(settings, storage, keys, p, first, n, &buffer[..]))
         }
-        8 => {
-            let set = PrefixInstruction::SetPrefix { word: first };
-            prefix_words(
-                settings,
-                &storage[..],
-                &keys[..],
-                records,
-                at,
-                state,
-                prefix,
-                set,
-            )
-        }
-        9 => {
-            let stored = PrefixInstruction::StorePrefix;
-            prefix_words(
-                settings,
-                &storage[..],
-                &keys[..],
-                records,
-                at,
-                state,
-                prefix,
-                stored,
-            )
-        }
-        _ => key_words(
+        _ => instruction_words(
             settings,
             &storage[..],
             keys,
             records,
-            at,
-            state,
-            prefix,
+            own,
             operation,
             first,
             second,
@@ -231,14 +203,13 @@ pub(crate) fn serve_bytes(
     if !(lengths_valid(settings, storage.len(), keys.len()) & state_valid(state)) {
         return refused(settings, storage.len(), keys.len());
     }
+    let own = Own { at, state, prefix };
     serve_words(
         settings,
         storage,
         keys,
         records,
-        at,
-        state,
-        prefix,
+        own,
         operation,
         first,
         second,

@@ -1,6 +1,5 @@
 -- `prefix_words` passes the instruction on with the record in the two words, and writes back the record that it leaves. No instruction looks at a
 -- buffer, so what holds with the empty one holds with any. Assumes nothing.
-use mathlib.Core.Path.{_∙_}
 use native.Mathlib.Omega.{arith}
 use Rattle.machine.proofs.Requests.{with-any-buffer}
 use Rattle.host.proofs.Calls.{served-call}
@@ -8,8 +7,8 @@ use borrow.Author.Needs.{needs}
 use Rattle.host.proofs.serve.prefix_words.Statement.{statement}
 use Rattle.host.proofs.serve.prefix_words.Tie as tie
 
-record-of-requires : tie.Need-record-of-requires
-record-of-requires c κs = search needs
+record-requires : tie.Need-record-requires
+record-requires c κs = search needs
 
 prefix-instruction-requires : tie.Need-prefix-instruction-requires
 prefix-instruction-requires c κs = search needs
@@ -28,16 +27,12 @@ returns c =
     let read = performed .before in
     let known = read .before in
     let start = known .before .before .before in
-    served-call (start .args .records .now) _ _ _ _ _ _ (performed .prefix-instruction .result .answer) (read .record-of .ensures ∙ start .pre .2)
-    (with-any-buffer _ _ _ _ _ _ tt (performed .prefix-instruction .ensures))
-    (λ i. omega (arith, known .slice-known .given i)) (written .write-back .ensures .0) (written .write-back .ensures .1)
+    let stepped = rw (read .«record» .ensures) at (performed .prefix-instruction .ensures) in
+    served-call (start .args .records .now) _ _ _ _ _ _ (performed .prefix-instruction .result .answer) (start .pre .2)
+    (with-any-buffer _ _ _ _ _ _ tt stepped) (λ i. omega (arith, known .slice-known .given i)) (written .write-back .ensures .0)
+    (written .write-back .ensures .1)
 
 pub prefix-words-spec : {M : Type 1} → statement M
 prefix-words-spec =
     tie.close
-    (tie.spec
-    record-of-requires
-    prefix-instruction-requires
-    write-back-requires
-    same-length
-    returns)
+    (tie.spec record-requires prefix-instruction-requires write-back-requires same-length returns)

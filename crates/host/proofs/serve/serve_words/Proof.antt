@@ -6,8 +6,8 @@ use borrow.Author.Needs.{needs}
 use Rattle.host.proofs.serve.serve_words.Statement.{statement}
 use Rattle.host.proofs.serve.serve_words.Tie as tie
 
-record-of-requires : tie.Need-record-of-requires
-record-of-requires c κs = search needs
+record-requires : tie.Need-record-requires
+record-requires c κs = search needs
 
 fetch-requires : tie.Need-fetch-requires
 fetch-requires c κs = search needs
@@ -15,8 +15,8 @@ fetch-requires c κs = search needs
 pack-requires : tie.Need-pack-requires
 pack-requires c κs = search needs
 
-record-of-requires-2 : tie.Need-record-of-requires-2
-record-of-requires-2 c κs = search needs
+record-requires-2 : tie.Need-record-requires-2
+record-requires-2 c κs = search needs
 
 store-requires : tie.Need-store-requires
 store-requires c κs = search needs
@@ -24,14 +24,8 @@ store-requires c κs = search needs
 pack-requires-2 : tie.Need-pack-requires-2
 pack-requires-2 c κs = search needs
 
-prefix-words-requires : tie.Need-prefix-words-requires
-prefix-words-requires c κs = search needs
-
-prefix-words-requires-2 : tie.Need-prefix-words-requires-2
-prefix-words-requires-2 c κs = search needs
-
-key-words-requires : tie.Need-key-words-requires
-key-words-requires c κs = search needs
+instruction-words-requires : tie.Need-instruction-words-requires
+instruction-words-requires c κs = search needs
 
 same-length : tie.Need-same-length
 same-length c = search needs
@@ -50,7 +44,7 @@ returns c =
     let known = told .before .before in
     let start = known .before .before .before in
     rw (told .match .keys1)
-    (kept-call (start .args .records .now) _ _ _ _ _ _ (performed .fetch .result) (read .record-of .ensures ∙ start .pre .2) (performed .fetch .ensures)
+    (kept-call (start .args .records .now) _ _ _ _ _ _ (performed .fetch .result) (read .«record» .ensures ∙ start .pre .2) (performed .fetch .ensures)
     (λ i. omega (arith, known .slice-known3 .given i)) (c .pack .ensures))
 
 same-length-4 : tie.Need-same-length-4
@@ -70,7 +64,7 @@ returns-2 c =
     let known = told .before .before in
     let start = known .before .before .before in
     rw (told .match .keys2)
-    (kept-call (start .args .records .now) _ _ _ _ _ _ (performed .store .result) (read .record-of2 .ensures ∙ start .pre .2) (performed .store .ensures)
+    (kept-call (start .args .records .now) _ _ _ _ _ _ (performed .store .result) (read .record2 .ensures ∙ start .pre .2) (performed .store .ensures)
     (λ i. omega (arith, known .slice-known3 .given i)) (c .pack2 .ensures))
 
 same-length-7 : tie.Need-same-length-7
@@ -84,56 +78,22 @@ same-length-9 c = search needs
 
 returns-3 : tie.Need-returns-3
 returns-3 c =
-    let served = c .before .before in
-    let told = served .before .before .before .before in
-    let start = told .before .before .before .before .before in
-    rw (told .match .keys3) (served .prefix-words .ensures (start .args .buffer .now))
-
-same-length-10 : tie.Need-same-length-10
-same-length-10 c = search needs
-
-same-length-11 : tie.Need-same-length-11
-same-length-11 c = search needs
-
-same-length-12 : tie.Need-same-length-12
-same-length-12 c = search needs
-
-returns-4 : tie.Need-returns-4
-returns-4 c =
-    let served = c .before .before in
-    let told = served .before .before .before .before in
-    let start = told .before .before .before .before .before in
-    rw (told .match .keys4) (served .prefix-words2 .ensures (start .args .buffer .now))
-
-same-length-13 : tie.Need-same-length-13
-same-length-13 c = search needs
-
-same-length-14 : tie.Need-same-length-14
-same-length-14 c = search needs
-
-same-length-15 : tie.Need-same-length-15
-same-length-15 c = search needs
-
-returns-5 : tie.Need-returns-5
-returns-5 c =
     let served = c .before .before .before .before in
     let told = served .before .before .before .before in
     let start = told .before .before .before .before .before in
-    served .key-words .ensures (start .args .buffer .now)
+    served .instruction-words .ensures (start .args .buffer .now)
 
 pub serve-words-spec : {M : Type 1} → statement M
 serve-words-spec =
     tie.close
     (tie.spec
-    record-of-requires
+    record-requires
     fetch-requires
     pack-requires
-    record-of-requires-2
+    record-requires-2
     store-requires
     pack-requires-2
-    prefix-words-requires
-    prefix-words-requires-2
-    key-words-requires
+    instruction-words-requires
     same-length
     same-length-2
     same-length-3
@@ -145,12 +105,4 @@ serve-words-spec =
     same-length-7
     same-length-8
     same-length-9
-    returns-3
-    same-length-10
-    same-length-11
-    same-length-12
-    returns-4
-    same-length-13
-    same-length-14
-    same-length-15
-    returns-5)
+    returns-3)

@@ -6,27 +6,31 @@ use mathlib.Core.Bool.{Bool, true, false, not, _&&_}
 use mathlib.Core.Logic.{_≢_}
 use mathlib.Core.List.{List}
 use native.Mathlib.Decide.{ℕ-discrete}
-use lib.ListN.{length, getD}
+use lib.ListN.{length, getD, set}
+use lib.Seq.{set-getD}
 use borrow.Author.Tests.{eq-eqb, ne-eqb}
 use Rattle.machine.specs.declared.Settings.{Settings}
 use Rattle.machine.specs.declared.Processor.{Processor}
+use Rattle.machine.specs.declared.PrefixInstruction.{PrefixInstruction}
+use Rattle.machine.specs.declared.PrefixInstruction.the-variants.{SetPrefix, StorePrefix}
 use Rattle.machine.specs.declared.Request.{Request}
+use Rattle.machine.specs.declared.Request.the-variants.{Prefix}
 use Rattle.machine.specs.declared.Answer.{Answer}
 use Rattle.machine.specs.Lists.{written}
 use Rattle.machine.specs.Numbers.{lengthsValid, recordValid}
 use Rattle.machine.specs.Answers.{numberOf, values, line, firstOf, firstLine, answerOf, stops}
 use Rattle.machine.specs.Table.{beforeProtection, verdict}
-use Rattle.machine.specs.Step.{withCode, withPrefix, outcome, step}
+use Rattle.machine.specs.Step.{withCode, withPrefix, outcome, completed, step}
 use Rattle.machine.specs.Pair.{withoutRecord}
 use Rattle.machine.proofs.AbsoluteAddress.{record-tested}
 use Rattle.machine.proofs.BeforeProtection.{cleared}
 use Rattle.machine.proofs.Conditions.{answer-in-table}
 use Rattle.machine.proofs.OwnRecord.{wrong-record}
-use Rattle.machine.proofs.Requests.{refused-request, refused-changes-nothing, completed-cleared, controls-stay}
+use Rattle.machine.proofs.Requests.{either-way, refused-request, refused-changes-nothing, completed-cleared, controls-stay}
 use Rattle.host.specs.Boundary.{recordAt, recordBytes, packed, Packs, callOutcome, recordsLeft, callServed, CallCondition1}
 use Rattle.host.specs.Serving.{Met}
 use Rattle.host.specs.Words.{wordAt, stateValid}
-use Rattle.host.specs.Writing.{recordPut}
+use Rattle.host.specs.Writing.{prefixPut, recordPut}
 use Rattle.host.proofs.Records.{Holds, valid-record-is-written, record-put, same-put}
 use Rattle.host.proofs.Words.{state-wrong}
 
@@ -114,6 +118,28 @@ pub kept-call : (bytes : List ℕ) (s : Settings) (storage keys : List ℕ) (at 
     → ((i : ℕ) → getD bytes i 0 < 256) → Packs result answer → Met s r at result storage keys bytes buffer storage′ keys′ bytes buffer′
 kept-call bytes s storage keys at {p} r buffer answer read stepped byte given =
     served-call bytes s storage keys at r buffer answer read stepped byte (sym (same-put bytes at p read)) given
+
+-- a prefix instruction leaves the condition code
+code-stays : (s : Settings) (storage keys : List ℕ) (p : Processor) (i : PrefixInstruction) (buffer : List ℕ)
+    → step s storage keys p (Prefix i) buffer .processor .code ≡ p .code
+unfolding completed
+code-stays s storage keys p i buffer = either-way s storage keys p (Prefix i) buffer (λ o. o .processor .code ≡ p .code) (λ answer. refl) (go i)
+  where
+    go : (i : PrefixInstruction) → completed s storage keys p (Prefix i) buffer .processor .code ≡ p .code
+    go (SetPrefix word) = refl
+    go StorePrefix = refl
+
+-- both conditions of a call of a prefix instruction, where the prefix is all that is written
+pub prefix-call : (bytes : List ℕ) (s : Settings) (storage keys : List ℕ) (at : ℕ) {p : Processor} (i : PrefixInstruction) (buffer : List ℕ)
+    (answer : Answer) {storage′ keys′ : List ℕ} {q : Processor} {buffer′ : List ℕ} {result : ℕ} {bytes′ : List ℕ}
+    → p ≡ recordAt bytes at → outcome answer storage′ keys′ q buffer′ ≡ step s storage keys p (Prefix i) buffer
+    → ((i : ℕ) → getD bytes i 0 < 256) → bytes′ ≡ prefixPut bytes at (p .prefix) (q .prefix) → Packs result answer
+    → Met s (Prefix i) at result storage keys bytes buffer storage′ keys′ bytes′ buffer′
+prefix-call bytes s storage keys at {p} i buffer answer {q} read stepped byte put given =
+    let same = ap (λ o. o .processor .code) stepped ∙ code-stays s storage keys p i buffer ∙ ap (λ x. x .code) read in
+    let kept = ap (set bytes (at + 2)) same ∙ set-getD bytes (at + 2) 0 in
+    served-call bytes s storage keys at (Prefix i) buffer answer read stepped byte
+    (put ∙ ap (λ b. prefixPut b at (p .prefix) (q .prefix)) (sym kept)) given
 
 -- lengths that line 64 refuses, whatever the record
 wrong-lengths : (s : Settings) (storage keys : List ℕ) (p : Processor) (r : Request) (buffer : List ℕ)

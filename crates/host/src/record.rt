@@ -61,7 +61,7 @@ pub fn record_of(state: u32, prefix: u32) -> Processor
 }
 
 // Writes the prefix where it has changed.
-fn put_prefix(bytes: &mut [u8], at: usize, before: u32, after: u32)
+pub(crate) fn put_prefix(bytes: &mut [u8], at: usize, before: u32, after: u32)
     requires { ⌜ (length (now bytes) ≡ 16) × (at ≤ 8) ⌝ }
     ensures { λ _. ⌜ now (bytes .exit) ≡ prefixPut (now (bytes .entry)) at before after ⌝ }
 {

@@ -1,6 +1,7 @@
 // A request of processor 0 or 1 over the bytes of the records. Requests are told apart by their operation number, and each then makes its record of
 // the two words that were read. That no request is put together to be told apart again, as in `storage_unit::serve`, and that each takes its
 // record apart by itself, is for speed (docs/BENCHMARK.md).
+use crate::record::put_prefix;
 use crate::record::put_record;
 use crate::record::record_of;
 use crate::record::state_valid;
@@ -83,7 +84,8 @@ fn unknown_operation(
     pack(answer_of(first_of(machine, operand), 0, 0))
 }
 
-// A prefix instruction, whatever the buffer.
+// A prefix instruction, whatever the buffer. It changes nothing but the prefix of its record, and nothing else is written: a byte that was written
+// anew would delay the next reading of its word (docs/BENCHMARK.md).
 fn prefix_words(
     settings: Settings,
     storage: &[u8],
@@ -97,7 +99,10 @@ fn prefix_words(
         (now (storage .entry)) (now (keys .entry)) (now (records .entry)) (now (storage .entry)) (now (keys .entry)) (now (records .exit)) ⌝ }
 {
     let served = prefix_instruction(settings, storage, keys, own.record(), instruction);
-    write_back(records, own, served)
+    let answer = served.answer;
+    let processor = served.processor;
+    put_prefix(records, own.at, own.prefix, processor.prefix);
+    pack(answer)
 }
 
 // An instruction, or an operation past the last, whatever the buffer.

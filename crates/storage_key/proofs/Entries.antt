@@ -1,13 +1,12 @@
 -- The permissions of an access key say of a storage key what the rule says. A word of bits has its bit i at its place; the rule looks at nothing
 -- but the access key and the five leading key bits, by which the bits are numbered; and the rule is the manual's summary. That the words of a
 -- table are these permissions is one test, to be computed, of all 512 entries. Assumes nothing.
-use Prim.Native.Nat.{ℕ, zero, suc, _+_, _*_, _/_, _%_, _^_, _-_, _<_, _≤_}
+use Prim.Native.Nat.{ℕ, zero, suc, _+_, _*_, _/_, _%_, _^_, _<_, _≤_}
 use mathlib.Core.Path.{_≡_, _∙_, refl, sym}
-use mathlib.Core.Logic.{_⊎_, ⊎-elim}
 use mathlib.Core.Bool.{Bool, true, false, cond, _&&_}
 use mathlib.Core.List.{List, []}
 use native.Mathlib.Omega.{arith}
-use native.Mathlib.Nat.{add-zero, eq-or-lt-of-le, pow-succ', div-one, div-div-eq-div-mul}
+use native.Mathlib.Nat.{add-zero, pow-succ', div-one, div-div-eq-div-mul}
 use lib.ListN.{getD}
 use lib.Dec.{eqb}
 use borrow.Author.Tests.{ne-eqb, eqb-true}
@@ -20,34 +19,29 @@ use Rattle.machine.proofs.Summary.{permitted-as-summarized}
 use Rattle.storage_key.specs.Entries.{wordOf, permissions, permits}
 
 -- bit i of a word of n bits
-bit-of : (bit : ℕ → Bool) (n i : ℕ) → i < n → wordOf bit n / 2 ^ (n - suc i) % 2 ≡ cond (bit i) 1 0
+bit-of : (bit : ℕ → Bool) (n i : ℕ) → i < n → wordOf bit n / 2 ^ i % 2 ≡ cond (bit i) 1 0
 unfolding wordOf
 bit-of bit zero i h = absurd (omega arith)
-bit-of bit (suc n) i h = ⊎-elim last (λ l. before l (bit-of bit n i l)) (eq-or-lt-of-le {n = i} {m = n} (omega arith))
+bit-of bit (suc n) zero h = rw (div-one (rest * 2 + cond (bit 0) 1 0)) (value (bit 0))
   where
-    word : ℕ
-    word = wordOf bit n
+    rest : ℕ
+    rest = wordOf (λ i. bit (suc i)) n
 
-    -- the last bit is the remainder by 2
-    value : (b : Bool) → (word * 2 + cond b 1 0) % 2 ≡ cond b 1 0
+    -- the first bit is the remainder by 2
+    value : (b : Bool) → (rest * 2 + cond b 1 0) % 2 ≡ cond b 1 0
     value true = omega arith
     value false = omega arith
+bit-of bit (suc n) (suc i) h =
+    let halved = div-div-eq-div-mul (rest * 2 + cond (bit 0) 1 0) 2 (2 ^ i) in
+    rw (pow-succ' 2 i, ← halved, half (bit 0)) (bit-of (λ j. bit (suc j)) n i (omega arith))
+  where
+    rest : ℕ
+    rest = wordOf (λ i. bit (suc i)) n
 
-    last : i ≡ n → wordOf bit (suc n) / 2 ^ (suc n - suc i) % 2 ≡ cond (bit i) 1 0
-    last e =
-        let none : suc n - suc i ≡ 0 = omega arith in
-        rw (none, div-one (word * 2 + cond (bit n) 1 0), e) (value (bit n))
-
-    -- each bit before it is a bit of the quotient by 2
-    half : (b : Bool) → (word * 2 + cond b 1 0) / 2 ≡ word
+    -- each bit after it is a bit of the quotient by 2
+    half : (b : Bool) → (rest * 2 + cond b 1 0) / 2 ≡ rest
     half true = omega arith
     half false = omega arith
-
-    before : i < n → word / 2 ^ (n - suc i) % 2 ≡ cond (bit i) 1 0 → wordOf bit (suc n) / 2 ^ (suc n - suc i) % 2 ≡ cond (bit i) 1 0
-    before l so-far =
-        let one-more : suc n - suc i ≡ suc (n - suc i) = omega arith in
-        let halved = div-div-eq-div-mul (word * 2 + cond (bit n) 1 0) 2 (2 ^ (n - suc i)) in
-        rw (one-more, pow-succ' 2 (n - suc i), ← halved, half (bit n)) so-far
 
 -- the test that a bit is one is the bit
 bit-on : (b : Bool) → eqb (cond b 1 0) 1 ≡ b
@@ -73,19 +67,18 @@ by-leading kind a k = of kind
 pub permits-permitted : (kind : AccessKind) (a k : ℕ) → k < 256 → permits (permissions kind a) k ≡ permitted kind a k
 unfolding permissions
 permits-permitted kind a k byte =
-    let place : 31 - k / 8 ≡ 32 - suc (k / 8) = omega arith in
-    rw (place, bit-of (λ leading. summarized kind a (leading * 8)) 32 (k / 8) (omega arith))
+    rw (bit-of (λ leading. summarized kind a (leading * 8)) 32 (k / 8) (omega arith))
     (bit-on (summarized kind a (k / 8 * 8)) ∙ (sym (permitted-as-summarized kind a (k / 8 * 8)) ∙ by-leading kind a k))
 
 -- words with the same bits are the same
 word-same : (f g : ℕ → Bool) (n : ℕ) → ((i : ℕ) → i < n → f i ≡ g i) → wordOf f n ≡ wordOf g n
 unfolding wordOf
 word-same f g zero same = refl
-word-same f g (suc n) same = rw (word-same f g n (λ i h. same i (omega arith)), same n (omega arith))
+word-same f g (suc n) same = rw (word-same (λ i. f (suc i)) (λ i. g (suc i)) n (λ i h. same (suc i) (omega arith)), same 0 (omega arith))
 
 -- The permissions of an access key over 15: it matches no storage key, whose access-control bits are below 16.
 abbrev pub unmatched : AccessKind → ℕ
-unmatched Fetch = 2863311530
+unmatched Fetch = 1431655765
 unmatched Store = 0
 
 pub over-15 : (kind : AccessKind) (a : ℕ) → 16 ≤ a → permissions kind a ≡ unmatched kind

@@ -57,46 +57,46 @@ pub fn joined(low: u8, high: u8) -> u8
 }
 
 // Who may fetch and store: 512 entries, one for each access key and each value of the five leading bits of a storage key. The 32 entries of an
-// access key are a word for fetch, among the first sixteen, and a word for store, among the second; an entry has a bit in each, from left to
-// right, which is one where that is permitted. Two entries side by side are for one value of the access-control bits, with fetch-protection
-// bit 0 and 1: they have 11 in the word for fetch and 11 in the word for store where the keys match, else 10 and 00. Why no larger, and why
+// access key are a word for fetch, among the first sixteen, and a word for store, among the second; an entry has a bit in each, from right to
+// left, which is one where that is permitted. Two entries side by side are for one value of the access-control bits, with fetch-protection
+// bit 0 and 1: they have 11 in the word for fetch and 11 in the word for store where the keys match, else 01 and 00. Why no larger, and why
 // the words of a kind stand together: docs/BENCHMARK.md.
 const PERMISSIONS: [[u32; 16]; 2] = [
     [
         0xFFFFFFFF,
-        0xBAAAAAAA,
-        0xAEAAAAAA,
-        0xABAAAAAA,
-        0xAAEAAAAA,
-        0xAABAAAAA,
-        0xAAAEAAAA,
-        0xAAABAAAA,
-        0xAAAAEAAA,
-        0xAAAABAAA,
-        0xAAAAAEAA,
-        0xAAAAABAA,
-        0xAAAAAAEA,
-        0xAAAAAABA,
-        0xAAAAAAAE,
-        0xAAAAAAAB,
+        0x5555555D,
+        0x55555575,
+        0x555555D5,
+        0x55555755,
+        0x55555D55,
+        0x55557555,
+        0x5555D555,
+        0x55575555,
+        0x555D5555,
+        0x55755555,
+        0x55D55555,
+        0x57555555,
+        0x5D555555,
+        0x75555555,
+        0xD5555555,
     ],
     [
         0xFFFFFFFF,
-        0x30000000,
-        0x0C000000,
-        0x03000000,
-        0x00C00000,
-        0x00300000,
-        0x000C0000,
-        0x00030000,
-        0x0000C000,
-        0x00003000,
-        0x00000C00,
-        0x00000300,
-        0x000000C0,
-        0x00000030,
         0x0000000C,
-        0x00000003,
+        0x00000030,
+        0x000000C0,
+        0x00000300,
+        0x00000C00,
+        0x00003000,
+        0x0000C000,
+        0x00030000,
+        0x000C0000,
+        0x00300000,
+        0x00C00000,
+        0x03000000,
+        0x0C000000,
+        0x30000000,
+        0xC0000000,
     ],
 ];
 
@@ -126,7 +126,7 @@ fn word_of(words: [u32; 16], access_key: u8) -> u32
     }
 }
 
-// The permissions of an access key for a kind of access, a bit for each value of the five leading bits of a storage key, from left to right.
+// The permissions of an access key for a kind of access, a bit for each value of the five leading bits of a storage key, from right to left.
 // An access key over 15 has no entries and matches no storage key: a fetch is permitted where the fetch-protection bit is zero, a store
 // nowhere.
 pub fn permissions(kind: AccessKind, access_key: u8) -> u32
@@ -134,7 +134,7 @@ pub fn permissions(kind: AccessKind, access_key: u8) -> u32
 {
     if 16 <= access_key {
         return match kind {
-            AccessKind::Fetch => 0xAAAAAAAA,
+            AccessKind::Fetch => 0x55555555,
             AccessKind::Store => 0x00000000,
         };
     }
@@ -149,7 +149,7 @@ pub fn permissions(kind: AccessKind, access_key: u8) -> u32
 pub fn permits(permissions: u32, key: u8) -> bool
     ensures { λ r. ⌜ r ≡ permitsKey permissions key ⌝ }
 {
-    (permissions >> (31 - key / 8)) % 2 == 1
+    (permissions >> (key / 8)) % 2 == 1
 }
 
 // The access key and the storage key permit an access. An access asks for the permissions once and for each of its units what they say.

@@ -43,7 +43,7 @@ fn line_for(access_key: u8, key: u8) -> &'static Line {
 }
 
 /// The table as the source has it: a word for each access key for fetch, then one for each for
-/// store, and in a word a bit for each value of the five leading key bits.
+/// store, and in a word a bit for each value of the five leading key bits, from right to left.
 fn printed() -> String {
     let permitted: [fn(&Line) -> bool; 2] =
         [|line| line.fetch_permitted, |line| line.store_permitted];
@@ -53,7 +53,7 @@ fn printed() -> String {
         for access_key in 0..16 {
             let word = (0..32).fold(0_u32, |word, leading_bits| {
                 let line = line_for(access_key, leading_bits << 3);
-                word << 1 | u32::from(permitted(line))
+                word | u32::from(permitted(line)) << leading_bits
             });
             table += &format!("        0x{word:08X},\n");
         }

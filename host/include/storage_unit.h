@@ -50,10 +50,12 @@ uint32_t storage_unit_version(void);
  *
  * The count of FETCH and STORE is the number of bytes, 1 to 256. Addresses are real and are
  * prefixed. R2 of ISK and SSK designates a 2K block by bits 8-20 (hex 00FFF800), and so does the
- * address of RRB; R2 of ISKE, SSKE and RRBE a 4K block by bits 1-19 (hex 7FFFF000), with 2K units
- * both of its keys. The key in R1 is its lowest byte. RRB and RRBE set the condition code to
- * 2 x the old reference bit + the old change bit; of two keys, RRBE takes the OR of the reference
- * bits and the OR of the change bits, as ISKE does.
+ * address of RRB. With 4K units the key is that of the unit in which the 2K block lies, and covers
+ * the other 2K block of the unit too. R2 of ISKE, SSKE and RRBE designates a 4K block by bits 1-19
+ * (hex 7FFFF000), with 2K units both of its keys. The key in R1 is its lowest byte. RRB and RRBE
+ * set the condition code to 2 x the old reference bit + the old change bit. Of two keys, RRBE takes
+ * the OR of the reference bits and the OR of the change bits; ISKE gives the first key, with its
+ * reference and change bits each ORed with those of the second.
  */
 
 #define STORAGE_UNIT_FETCH        0u /* address, count: from storage to the buffer */
@@ -164,7 +166,8 @@ uint32_t storage_unit_version(void);
  * The record of the other processor is never written. Where the table names bytes, the others are
  * never written: bytes of storage that a store does not name, keys of other units, the rest of the
  * record and of the buffer. In a key, a fetch sets the reference bit, a store the reference bit and
- * the change bit, RRB and RRBE set the reference bit to zero; SSK and SSKE replace the key.
+ * the change bit, RRB and RRBE set the reference bit to zero; SSK and SSKE replace the key. Hex 01
+ * of a key that is written becomes zero.
  *
  * Bytes behind a pointer to const are only read, and may be in read-only memory: the storage of
  * storage_unit_fetch and the bytes of storage_unit_store. Other memory that is lent must be
@@ -481,7 +484,8 @@ static inline uint64_t storage_unit_rrb(const struct storage_unit_machine *machi
     return storage_unit_machine_request(machine, processor_number, STORAGE_UNIT_RRB, 0u, address);
 }
 
-/* INSERT STORAGE KEY EXTENDED: as ISK, with the 4K block that R2 designates. */
+/* INSERT STORAGE KEY EXTENDED: as ISK, with the 4K block that R2 designates; of two keys the first,
+ * with its reference and change bits each ORed with those of the second. */
 static inline uint64_t storage_unit_iske(const struct storage_unit_machine *machine,
                                          uint32_t processor_number, uint32_t r1, uint32_t r2)
 {

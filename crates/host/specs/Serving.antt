@@ -1,4 +1,4 @@
--- What the functions mean that serve a request over the bytes of the records: both conditions of a call, by the record that stands from `at` on.
+-- What it means to serve a request over the bytes of the records: both conditions of a call, by the record that stands from `at` on.
 use Prim.Native.Nat.{ℕ}
 use mathlib.Core.Path.{_≡_}
 use mathlib.Core.List.{List}

@@ -16,7 +16,7 @@ wordAt bytes at = getD bytes at 0 + getD bytes (at + 1) 0 * 256 + getD bytes (at
 abbrev pub stateValid : ℕ → Bool
 stateValid state = reservedZero (state / 256 % 256) (state / 16777216) && leb (state % 256) 15 && leb (state / 65536 % 256) 3
 
--- the record with this state, where it is valid, and this prefix
+-- the record with this state and this prefix; of a state that is not valid, PSW key and condition code are remainders
 abbrev pub recordOf : ℕ → ℕ → Processor
 recordOf state prefix =
     record {

@@ -25,7 +25,7 @@ pub extern "C" fn storage_unit_version() -> u32
     200
 }
 
-// The answer where there is no record, or one that line 65 refuses.
+// The answer where line 64 refuses the lengths, where there is no record, or where line 65 refuses it.
 pub fn refused(settings: Settings, storage_length: usize, key_length: usize) -> u64
     ensures { λ r. ⌜ Packs r (answerOf (withoutRecord settings «storage_length» «key_length») 0 0) ⌝ }
 {

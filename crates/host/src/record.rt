@@ -34,8 +34,8 @@ pub(crate) fn word_at(bytes: &[u8], at: usize) -> u32
     word(bytes[at], bytes[at + 1], bytes[at + 2], bytes[at + 3])
 }
 
-// The state of a record is one that a processor can have: reserved bits zero, the PSW key at most 15, the condition code at most 3. So
-// written, the compiler makes one test of the four (docs/BENCHMARK.md).
+// The state of a record is one that a processor can have: reserved bits zero, the PSW key at most 15, the condition code at most 3.
+// Written so that the compiler makes one test of the four (docs/BENCHMARK.md).
 pub fn state_valid(state: u32) -> bool
     ensures { λ r. ⌜ r ≡ isStateValid state ⌝ }
 {
@@ -45,7 +45,7 @@ pub fn state_valid(state: u32) -> bool
         & (state / 65536 % 256 <= 3)
 }
 
-// The record with this state, which is valid, and this prefix.
+// The record with this state and this prefix. Of a state that is not valid, PSW key and condition code are remainders by 16 and 4.
 pub fn record_of(state: u32, prefix: u32) -> Processor
     ensures { λ r. ⌜ r ≡ recordOf state prefix ⌝ }
 {

@@ -1,5 +1,5 @@
 // A request of processor 0 or 1 over the bytes of the records. Requests are told apart by their operation number, and each then makes its record of
-// the two words that were read. That no request is put together to be told apart again, as in `storage_unit::serve`, and that each takes its
+// the two words that were read. That no request is put together to be told apart again, as one is for `storage_unit::serve`, and that each takes its
 // record apart by itself, is for speed (docs/BENCHMARK.md).
 use crate::record::put_prefix;
 use crate::record::put_record;
@@ -53,7 +53,7 @@ impl Own {
     }
 }
 
-// Writes what an instruction has changed of its record, and packs its answer.
+// Writes the condition code that RRB or RRBE leaves, changed or not, and packs the answer.
 fn write_back(records: &mut [u8], own: Own, served: Served) -> u64
     requires { ⌜ (length (now records) ≡ 16) × (own .at ≤ 8) ⌝ }
     ensures { λ r. ⌜ (now (records .exit) ≡ recordPut (now (records .entry)) (own .at) (recordOf (own .state) (own .prefix)) (served .processor))

@@ -1,5 +1,5 @@
 // The lines of the table of answers from top to bottom: those that ISK, SSK and RRB can meet, and those that ISKE, SSKE and RRBE can meet.
-// Each line that stops makes its refusal in place and returns early, for speed (docs/BENCHMARK.md).
+// Each line after 65 that stops makes its refusal in place and returns early, for speed (docs/BENCHMARK.md).
 use machine::Processor;
 use machine::Reason;
 use machine::Settings;

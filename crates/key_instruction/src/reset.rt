@@ -1,5 +1,5 @@
-// RRB and RRBE: the reference bit is reset, and the record has another condition code. Each is a function of its own, from the lines of the
-// table to the answer, for speed (docs/BENCHMARK.md).
+// RRB and RRBE: the reference bit is reset, and the condition code of the record is set from the key as it was. Each is a function of its own,
+// from the lines of the table to the answer, for speed (docs/BENCHMARK.md).
 use crate::block::block_2k;
 use crate::block::block_4k;
 use crate::block::found_at;

@@ -39,7 +39,7 @@ pub fn code_of(key: u8) -> u8
     key / 2 % 4
 }
 
-// The OR of two bits. So written, the compiler makes one instruction of it.
+// The OR of two bits, written so that the compiler makes one instruction of it.
 fn either(a: u8, b: u8) -> u8
     requires { ⌜ (a < 2) × (b < 2) ⌝ }
     ensures { λ r. ⌜ r ≡ max a b ⌝ }
@@ -59,8 +59,8 @@ pub fn joined(low: u8, high: u8) -> u8
 // Who may fetch and store: 512 entries, one for each access key and each value of the five leading bits of a storage key. The 32 entries of an
 // access key are a word for fetch, among the first sixteen, and a word for store, among the second; an entry has a bit in each, from right to
 // left, which is one where that is permitted. Two entries side by side are for one value of the access-control bits, with fetch-protection
-// bit 0 and 1: they have 11 in the word for fetch and 11 in the word for store where the keys match, else 01 and 00. Why no larger, and why
-// the words of a kind stand together: docs/BENCHMARK.md.
+// bit 0 and 1: they have 11 in the word for fetch and 11 in the word for store where the keys match, else 01 and 00. The words of a kind stand
+// together so that `word_of` takes one array of sixteen. What other forms took: docs/BENCHMARK.md.
 const PERMISSIONS: [[u32; 16]; 2] = [
     [
         0xFFFFFFFF,

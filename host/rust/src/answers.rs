@@ -33,12 +33,24 @@ pub struct Refusal {
     /// The reason: the first that applies.
     pub reason: Reason,
     /// For [`Reason::Addressing`] and [`Reason::Protection`] of an access, the offset of the
-    /// first such byte from the start of the access; otherwise zero.
+    /// first such byte from the start of the access; otherwise zero, but for an answer of a
+    /// library of another version ([`Reason::Configuration`]).
     pub place: u8,
+}
+
+impl Refusal {
+    /// What stands for an answer that this crate does not know, of a library of another version.
+    pub(crate) const UNKNOWN: Refusal = Refusal {
+        reason: Reason::Configuration,
+        place: u8::MAX,
+    };
 }
 
 impl fmt::Display for Refusal {
     fn fmt(&self, f: &mut fmt::Formatter) -> fmt::Result {
+        if *self == Refusal::UNKNOWN {
+            return f.write_str("the library that is linked is not of this crate's version");
+        }
         write!(f, "{} (number {})", self.reason, self.reason.number())?;
         match self.reason {
             Reason::Addressing | Reason::Protection => write!(f, ", place {}", self.place),

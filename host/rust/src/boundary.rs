@@ -404,12 +404,7 @@ fn answer_given(packed: u64) -> Answer {
 #[cold]
 #[inline(never)]
 fn refusal_given(packed: u64) -> Refusal {
-    // A library of another version gave what this crate does not know.
-    const UNKNOWN: Refusal = Refusal {
-        reason: Reason::Configuration,
-        place: u8::MAX,
-    };
-    refusal(packed).unwrap_or(UNKNOWN)
+    refusal(packed).unwrap_or(Refusal::UNKNOWN)
 }
 
 /// Calls a C function with slices: settings, storage, keys, records, processor number,

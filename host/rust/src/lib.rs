@@ -3,14 +3,20 @@
 //!
 //! A [`Machine`] holds the storage, its keys and the records of two processors, and
 //! the [`Cpu`] that [`Machine::cpu`] gives has a method for each operation. A request gives a
-//! [`Completed`], or a [`Refusal`] with its [`Reason`], for most the manual's program exception,
-//! and then nothing has changed. The functions [`request`], [`fetch`] and [`store`] do the same
+//! [`Completed`] or a [`Refusal`], and one that is refused has changed nothing. Most [`Reason`]s are
+//! the manual's program exceptions. The functions [`request`], [`fetch`] and [`store`] do the same
 //! with what is lent to each call.
 //!
 //! The work is done by the static library `libstorage_unit.a`, for x86-64 Linux. What it answers
 //! and leaves is proved for all inputs, against rules that rest on the IBM System/370 Principles
 //! of Operation, GA22-7000. Bits are numbered as in that manual: bit 0 is the leftmost. Nothing in
 //! this crate panics.
+//!
+//! # Linking
+//!
+//! The build links the file that the variable `STORAGE_UNIT_LIBRARY` names; else
+//! `lib/libstorage_unit.a` in the folder that `STORAGE_UNIT_PREFIX` names, where `host/install` has
+//! put it; else `target/staticlib/libstorage_unit.a` of the clone, which `host/library` writes.
 //!
 //! # Example
 //!

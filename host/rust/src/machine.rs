@@ -144,7 +144,9 @@ impl<B: AsRef<[u8]>, P: fmt::Debug> fmt::Debug for Machine<B, P> {
 /// A processor of a [`Machine`], with a method for each operation.
 ///
 /// Addresses are real addresses, below 16,777,216. R2 of ISK and SSK designates a 2K block by
-/// bits 8-20, R2 of ISKE, SSKE and RRBE a 4K block by bits 1-19. The key in R1 is its lowest byte.
+/// bits 8-20, and so does the address of RRB; with 4K units the key is that of the unit in which
+/// the 2K block lies, and covers its other 2K block too. R2 of ISKE, SSKE and RRBE designates a 4K
+/// block by bits 1-19. The key in R1 is its lowest byte.
 ///
 /// # Errors
 ///
@@ -209,7 +211,7 @@ impl Cpu<'_> {
     }
 
     /// Any request, as the function [`request`](crate::request()) carries it out. Only a fetch
-    /// and a store use the buffer, which is empty for the others.
+    /// and a store use the buffer; for the others it may be empty.
     #[inline]
     pub fn request(&mut self, request: &Request, buffer: &mut [u8]) -> Result<Completed, Refusal> {
         calls::request(

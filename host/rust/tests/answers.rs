@@ -117,10 +117,15 @@ fn answers_that_are_not_known() {
         rule: Some(Rule::Prefix),
     };
     assert_eq!(fetch_that_gives!(0x0000_0200_0000_0007), Ok(completed));
-    let unknown = Err(Refusal {
+    let refusal = Refusal {
         reason: Reason::Configuration,
         place: 255,
-    });
+    };
+    assert_eq!(
+        refusal.to_string(),
+        "the library that is linked is not of this crate's version"
+    );
+    let unknown = Err(refusal);
     // The number 67, the rule 4, a completed request with a place, a refused one with a word.
     assert_eq!(fetch_that_gives!(0x0043_0000_0000_0000), unknown);
     assert_eq!(fetch_that_gives!(0x0000_0400_0000_0000), unknown);

@@ -1,4 +1,4 @@
--- `write_back` puts the record that was left over the bytes of its own, and packs the answer. Assumes nothing.
+-- `write_back` writes the record that the instruction leaves over its bytes, and packs the answer. Assumes nothing.
 use borrow.Author.Needs.{needs}
 use Rattle.host.proofs.serve.write_back.Statement.{statement}
 use Rattle.host.proofs.serve.write_back.Tie as tie

@@ -4,7 +4,7 @@ use Prim.Native.Nat.{ℕ, _+_, _<_}
 use mathlib.Core.Path.{_≡_, refl, sym, ap, subst, _∙_}
 use mathlib.Core.Bool.{Bool, true, false, not, _&&_}
 use mathlib.Core.Logic.{_≢_}
-use mathlib.Core.List.{List}
+use mathlib.Core.List.{List, []}
 use native.Mathlib.Decide.{ℕ-discrete}
 use lib.ListN.{length, getD, set}
 use lib.Seq.{set-getD}
@@ -26,9 +26,9 @@ use Rattle.machine.proofs.AbsoluteAddress.{record-tested}
 use Rattle.machine.proofs.BeforeProtection.{cleared}
 use Rattle.machine.proofs.Conditions.{answer-in-table}
 use Rattle.machine.proofs.OwnRecord.{wrong-record}
-use Rattle.machine.proofs.Requests.{either-way, refused-request, refused-changes-nothing, completed-cleared, controls-stay}
+use Rattle.machine.proofs.Requests.{NoAccess, with-any-buffer, either-way, refused-request, refused-changes-nothing, completed-cleared, controls-stay}
 use Rattle.host.specs.Boundary.{recordAt, recordBytes, packed, Packs, callOutcome, recordsLeft, callServed, CallCondition1}
-use Rattle.host.specs.Serving.{Met}
+use Rattle.host.specs.Serving.{Met, MetByInstruction}
 use Rattle.host.specs.Words.{wordAt, stateValid}
 use Rattle.host.specs.Writing.{prefixPut, recordPut}
 use Rattle.host.proofs.Records.{Holds, valid-record-is-written, record-put, same-put}
@@ -119,6 +119,21 @@ pub kept-call : (bytes : List ℕ) (s : Settings) (storage keys : List ℕ) (at 
 kept-call bytes s storage keys at {p} r buffer answer read stepped byte given =
     served-call bytes s storage keys at r buffer answer read stepped byte (sym (same-put bytes at p read)) given
 
+-- the same of an instruction, which looks at no buffer: what holds with the empty one holds with any
+pub served-instruction : (bytes : List ℕ) (s : Settings) (storage keys : List ℕ) (at : ℕ) {p : Processor} (r : Request) (answer : Answer) → NoAccess r
+    → {storage′ keys′ : List ℕ} {q : Processor} {result : ℕ} {bytes′ : List ℕ}
+    → p ≡ recordAt bytes at → outcome answer storage′ keys′ q [] ≡ step s storage keys p r []
+    → ((i : ℕ) → getD bytes i 0 < 256) → Packs result answer → bytes′ ≡ recordPut bytes at p q
+    → MetByInstruction s r at result storage keys bytes storage′ keys′ bytes′
+served-instruction bytes s storage keys at {p} r answer other read stepped byte given put =
+    λ buffer. served-call bytes s storage keys at r buffer answer read (with-any-buffer s storage keys p r buffer other stepped) byte put given
+
+pub kept-instruction : (bytes : List ℕ) (s : Settings) (storage keys : List ℕ) (at : ℕ) {p : Processor} (r : Request) (answer : Answer) → NoAccess r
+    → {storage′ keys′ : List ℕ} {result : ℕ} → p ≡ recordAt bytes at → outcome answer storage′ keys′ p [] ≡ step s storage keys p r []
+    → ((i : ℕ) → getD bytes i 0 < 256) → Packs result answer → MetByInstruction s r at result storage keys bytes storage′ keys′ bytes
+kept-instruction bytes s storage keys at {p} r answer other read stepped byte given =
+    served-instruction bytes s storage keys at r answer other read stepped byte given (sym (same-put bytes at p read))
+
 -- a prefix instruction leaves the condition code
 code-stays : (s : Settings) (storage keys : List ℕ) (p : Processor) (i : PrefixInstruction) (buffer : List ℕ)
     → step s storage keys p (Prefix i) buffer .processor .code ≡ p .code
@@ -130,16 +145,16 @@ code-stays s storage keys p i buffer = either-way s storage keys p (Prefix i) bu
     go StorePrefix = refl
 
 -- both conditions of a call of a prefix instruction, where the prefix is all that is written
-pub prefix-call : (bytes : List ℕ) (s : Settings) (storage keys : List ℕ) (at : ℕ) {p : Processor} (i : PrefixInstruction) (buffer : List ℕ)
-    (answer : Answer) {storage′ keys′ : List ℕ} {q : Processor} {buffer′ : List ℕ} {result : ℕ} {bytes′ : List ℕ}
-    → p ≡ recordAt bytes at → outcome answer storage′ keys′ q buffer′ ≡ step s storage keys p (Prefix i) buffer
-    → ((i : ℕ) → getD bytes i 0 < 256) → bytes′ ≡ prefixPut bytes at (p .prefix) (q .prefix) → Packs result answer
-    → Met s (Prefix i) at result storage keys bytes buffer storage′ keys′ bytes′ buffer′
-prefix-call bytes s storage keys at {p} i buffer answer {q} read stepped byte put given =
-    let same = ap (λ o. o .processor .code) stepped ∙ code-stays s storage keys p i buffer ∙ ap (λ x. x .code) read in
+pub prefix-call : (bytes : List ℕ) (s : Settings) (storage keys : List ℕ) (at : ℕ) {p : Processor} (i : PrefixInstruction) (answer : Answer)
+    {storage′ keys′ : List ℕ} {q : Processor} {result : ℕ} {bytes′ : List ℕ}
+    → p ≡ recordAt bytes at → outcome answer storage′ keys′ q [] ≡ step s storage keys p (Prefix i) []
+    → ((i : ℕ) → getD bytes i 0 < 256) → Packs result answer → bytes′ ≡ prefixPut bytes at (p .prefix) (q .prefix)
+    → MetByInstruction s (Prefix i) at result storage keys bytes storage′ keys′ bytes′
+prefix-call bytes s storage keys at {p} i answer {q} read stepped byte given put =
+    let same = ap (λ o. o .processor .code) stepped ∙ code-stays s storage keys p i [] ∙ ap (λ x. x .code) read in
     let kept = ap (set bytes (at + 2)) same ∙ set-getD bytes (at + 2) 0 in
-    served-call bytes s storage keys at (Prefix i) buffer answer read stepped byte
-    (put ∙ ap (λ b. prefixPut b at (p .prefix) (q .prefix)) (sym kept)) given
+    served-instruction bytes s storage keys at (Prefix i) answer tt read stepped byte given
+    (put ∙ ap (λ b. prefixPut b at (p .prefix) (q .prefix)) (sym kept))
 
 -- lengths that line 64 refuses, whatever the record
 wrong-lengths : (s : Settings) (storage keys : List ℕ) (p : Processor) (r : Request) (buffer : List ℕ)

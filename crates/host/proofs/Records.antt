@@ -39,14 +39,18 @@ joined-back false true false = (omega arith, refl, refl, refl)
 joined-back false false true = (omega arith, refl, refl, refl)
 joined-back false false false = (omega arith, refl, refl, refl)
 
--- a number below 2^32 from its four bytes
-four-bytes : (x : ℕ) → x < 4294967296 → x % 256 + x / 256 % 256 * 256 + x / 65536 % 256 * 65536 + x / 16777216 % 256 * 16777216 ≡ x
-four-bytes x h =
+-- the word in the last four bytes of a number, from these bytes; a number below 2^32 is that word
+pub last-word : (x : ℕ) → x % 4294967296 ≡ x % 256 + x / 256 % 256 * 256 + x / 65536 % 256 * 65536 + x / 16777216 % 256 * 16777216
+last-word x =
     let a : x ≡ x % 256 + x / 256 * 256 = omega arith in
     let b : x / 256 ≡ x / 256 % 256 + x / 65536 * 256 = omega arith in
     let c : x / 65536 ≡ x / 65536 % 256 + x / 16777216 * 256 = omega arith in
-    let d : x / 16777216 % 256 ≡ x / 16777216 = omega arith in
+    let d : x / 16777216 ≡ x / 16777216 % 256 + x / 4294967296 * 256 = omega arith in
+    let e : x ≡ x % 4294967296 + x / 4294967296 * 4294967296 = omega arith in
     omega arith
+
+four-bytes : (x : ℕ) → x < 4294967296 → x % 256 + x / 256 % 256 * 256 + x / 65536 % 256 * 65536 + x / 16777216 % 256 * 16777216 ≡ x
+four-bytes x h = let whole : x % 4294967296 ≡ x = omega arith in sym (last-word x) ∙ whole
 
 -- the record that is read depends on its eight bytes alone
 pub same-record : (xs ys : List ℕ) (a b : ℕ) → ((i : ℕ) → i < 8 → getD xs (a + i) 0 ≡ getD ys (b + i) 0) → recordAt xs a ≡ recordAt ys b
@@ -89,9 +93,10 @@ three-bits : (c : ℕ) → c < 8 → c ≡ joined (bit 1 c) (bit 2 c) (bit 4 c)
 three-bits c h =
     rw (value-of-bit (c / 1 % 2) 1 (omega arith), value-of-bit (c / 2 % 2) 2 (omega arith), value-of-bit (c / 4 % 2) 4 (omega arith)) (omega arith)
 
-pub prefix-bytes : (a b c d : ℕ) → a < 256 → b < 256 → c < 256 → d < 256 → let x = a + b * 256 + c * 65536 + d * 16777216 in
+-- the bytes of a word are its digits
+pub word-digits : (a b c d : ℕ) → a < 256 → b < 256 → c < 256 → d < 256 → let x = a + b * 256 + c * 65536 + d * 16777216 in
     (a ≡ x % 256) × (b ≡ x / 256 % 256) × (c ≡ x / 65536 % 256) × (d ≡ x / 16777216 % 256)
-prefix-bytes a b c d ha hb hc hd = omega arith
+word-digits a b c d ha hb hc hd = omega arith
 
 each-of-eight : (P : ℕ → Type 0) → P 0 → P 1 → P 2 → P 3 → P 4 → P 5 → P 6 → P 7 → (i : ℕ) → i < 8 → P i
 each-of-eight P a b c d e f g h zero l = a
@@ -122,7 +127,7 @@ read-record-is-written bytes at byte reserved =
         × (getD bytes (at + 5) 0 ≡ recordAt bytes at .prefix / 256 % 256)
         × (getD bytes (at + 6) 0 ≡ recordAt bytes at .prefix / 65536 % 256)
         × (getD bytes (at + 7) 0 ≡ recordAt bytes at .prefix / 16777216 % 256)
-    four = prefix-bytes _ _ _ _ (byte (at + 4)) (byte (at + 5)) (byte (at + 6)) (byte (at + 7))
+    four = word-digits _ _ _ _ (byte (at + 4)) (byte (at + 5)) (byte (at + 6)) (byte (at + 7))
 
 -- so are the bytes of a record that line 65 lets pass: with a reserved bit on, its PSW key would be 255
 pub valid-record-is-written : (bytes : List ℕ) (at storageLength : ℕ) → ((i : ℕ) → getD bytes i 0 < 256)

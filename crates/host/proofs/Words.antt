@@ -8,13 +8,13 @@ use mathlib.Core.List.{List}
 use native.Mathlib.Omega.{arith}
 use native.Mathlib.Nat.{add-assoc}
 use lib.ListN.{getD}
-use lib.Dec.{eqb, leb, ltb}
+use lib.Dec.{leb}
 use borrow.Author.Tests.{leb-true}
 use Rattle.machine.specs.Numbers.{recordValid}
 use Rattle.machine.proofs.Verdicts.{not-both, both}
 use Rattle.host.specs.Boundary.{reservedZero, reservedZeroAt, recordAt}
 use Rattle.host.specs.Words.{wordAt, stateValid, recordOf}
-use Rattle.host.proofs.Records.{prefix-bytes}
+use Rattle.host.proofs.Records.{word-digits}
 
 -- The word of four bytes.
 module _ (a b c d : ℕ) (ha : a < 256) (hb : b < 256) (hc : c < 256) (hd : d < 256) where
@@ -23,18 +23,19 @@ module _ (a b c d : ℕ) (ha : a < 256) (hb : b < 256) (hc : c < 256) (hd : d < 
 
   valid-by-bytes : stateValid word ≡ reservedZero b d && leb a 15 && leb c 3
   valid-by-bytes =
-      let digits = prefix-bytes a b c d ha hb hc hd in
+      let digits = word-digits a b c d ha hb hc hd in
       let top : d ≡ word / 16777216 = omega arith in
       rw (← digits .0, ← digits .1, ← digits .2, ← top)
 
   -- PSW key, controls and condition code of a valid state
   parts : a ≤ 15 → c ≤ 3 → (word % 16 ≡ a) × (word / 256 % 256 ≡ b) × (word / 65536 % 4 ≡ c)
   parts key code =
-      let digits = prefix-bytes a b c d ha hb hc hd in
+      let digits = word-digits a b c d ha hb hc hd in
       (omega arith, sym (digits .1), omega (arith, digits .2))
 
--- A record that is not refused has a valid state: r is that no reserved bit is on.
-refused-state : (r key code prefix inside : Bool) (a : ℕ) → leb a 15 ≡ key → r && key && code ≡ false → leb (cond r a 255) 15 && code && prefix && inside ≡ false
+-- A record whose state is not valid is refused, whatever its prefix: r is that no reserved bit is on.
+refused-state : (r key code prefix inside : Bool) (a : ℕ) → leb a 15 ≡ key → r && key && code ≡ false
+    → leb (cond r a 255) 15 && code && prefix && inside ≡ false
 refused-state false key code prefix inside a e f = refl
 refused-state true true true prefix inside a e f = absurd (not-both refl f)
 refused-state true true false prefix inside a e f = rw e refl

@@ -46,6 +46,7 @@ struct Own {
 }
 
 impl Own {
+    // The record in the two words.
     fn record(self) -> Processor
         ensures { λ r. ⌜ r ≡ recordOf (self .state) (self .prefix) ⌝ }
     {

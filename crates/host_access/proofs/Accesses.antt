@@ -33,29 +33,19 @@ use Rattle.machine.proofs.Written.{written-back}
 use Rattle.host.specs.Boundary.{settingsOf, recordAt, recordBytes, requestOf, Packs, packed}
 use Rattle.host.specs.Boundary.{callOutcome, recordsLeft, callRefused, calledWith, called}
 use Rattle.host.specs.Words.{wordAt, stateValid, recordOf}
-use Rattle.host.proofs.Records.{same-record, valid-record-is-written}
+use Rattle.host.proofs.Records.{last-word, same-record, valid-record-is-written}
 use Rattle.host.proofs.Words.{state-wrong, state-read}
 use Rattle.host_access.specs.ShortWay.{numberBytes, recordIn, accessOutcome, accessServed, accessed, AccessCondition1}
 
--- the prefix is the four greater bytes of a number below 2^64
+-- the greater half of a number below 2^64, from its four bytes
 prefix-in : (x : ℕ) → x < 18446744073709551616
     → x / 4294967296 ≡ x / 4294967296 % 256 + x / 1099511627776 % 256 * 256 + x / 281474976710656 % 256 * 65536 + x / 72057594037927936 % 256 * 16777216
 prefix-in x h =
-    let a : x / 4294967296 ≡ x / 4294967296 % 256 + x / 1099511627776 * 256 = omega arith in
-    let b : x / 1099511627776 ≡ x / 1099511627776 % 256 + x / 281474976710656 * 256 = omega arith in
-    let c : x / 281474976710656 ≡ x / 281474976710656 % 256 + x / 72057594037927936 * 256 = omega arith in
-    let d : x / 72057594037927936 % 256 ≡ x / 72057594037927936 = omega arith in
-    omega arith
-
--- so is the state the four lesser ones
-state-in : (x : ℕ) → x % 4294967296 ≡ x % 256 + x / 256 % 256 * 256 + x / 65536 % 256 * 65536 + x / 16777216 % 256 * 16777216
-state-in x =
-    let a : x ≡ x % 256 + x / 256 * 256 = omega arith in
-    let b : x / 256 ≡ x / 256 % 256 + x / 65536 * 256 = omega arith in
-    let c : x / 65536 ≡ x / 65536 % 256 + x / 16777216 * 256 = omega arith in
-    let d : x / 16777216 ≡ x / 16777216 % 256 + x / 4294967296 * 256 = omega arith in
-    let e : x ≡ x % 4294967296 + x / 4294967296 * 4294967296 = omega arith in
-    omega arith
+    let a : x / 4294967296 / 256 ≡ x / 1099511627776 = omega arith in
+    let b : x / 4294967296 / 65536 ≡ x / 281474976710656 = omega arith in
+    let c : x / 4294967296 / 16777216 ≡ x / 72057594037927936 = omega arith in
+    let whole : x / 4294967296 ≡ x / 4294967296 % 4294967296 = omega arith in
+    whole ∙ (rw (a, b, c) at (last-word (x / 4294967296)))
 
 number-byte : (x i : ℕ) → getD (numberBytes x) i 0 < 256
 number-byte x zero = omega arith
@@ -72,9 +62,9 @@ number-byte x (suc (suc (suc (suc (suc (suc (suc (suc i)))))))) = omega arith
 pub record-read : (x : ℕ) → x < 18446744073709551616 → stateValid (x % 4294967296) ≡ true
     → recordOf (x % 4294967296) (x / 4294967296) ≡ recordIn x
 record-read x h valid =
-    ap (λ state. recordOf state (x / 4294967296)) (state-in x)
+    ap (λ state. recordOf state (x / 4294967296)) (last-word x)
     ∙ ap (recordOf (wordAt (numberBytes x) 0)) (prefix-in x h)
-    ∙ state-read (numberBytes x) 0 (number-byte x) (rw (state-in x) at valid)
+    ∙ state-read (numberBytes x) 0 (number-byte x) (rw (last-word x) at valid)
 
 -- a call that changes nothing, whatever its answer
 pub nothing-changes : (answer : Answer) {result : ℕ} {storage keys bytes : List ℕ} → Packs result answer
@@ -111,7 +101,7 @@ pub wrong-access : (s : Settings) (storage keys : List ℕ) (x : ℕ) (kind : Ac
     → stateValid (x % 4294967296) ≡ false → (given : Packs result (answerOf (withoutRecord s (length storage) (length keys)) 0 0))
     → Met s storage keys x kind address bytes (answerOf (withoutRecord s (length storage) (length keys)) 0 0) given storage keys bytes
 wrong-access s storage keys x kind address bytes wrong given =
-    let refused = state-wrong (numberBytes x) 0 (number-byte x) (length storage) (rw (state-in x) at wrong) in
+    let refused = state-wrong (numberBytes x) 0 (number-byte x) (length storage) (rw (last-word x) at wrong) in
     served-access s storage keys x kind address bytes (answerOf (withoutRecord s (length storage) (length keys)) 0 0) given
     (wrong-record s storage keys (recordIn x) (Access kind address (length bytes)) bytes refused)
 

@@ -1,11 +1,10 @@
 -- `instruction_words` passes each instruction on with the record in the two words, and writes back the record that RRB and RRBE leave; any other
--- operation is past the last. No instruction looks at a buffer, so what holds with the empty one holds with any. Assumes nothing.
+-- operation is past the last. Assumes nothing.
 use Prim.Native.Nat.{_≤_}
 use native.Mathlib.Omega.{arith}
-use Rattle.machine.proofs.Requests.{with-any-buffer}
 use Rattle.machine.proofs.Tests.{five-more}
 use Rattle.host.proofs.Laws.{past-last-call}
-use Rattle.host.proofs.Calls.{kept-call, served-call}
+use Rattle.host.proofs.Calls.{kept-instruction, served-instruction}
 use borrow.Author.Needs.{needs}
 use Rattle.host.proofs.serve.instruction_words.Statement.{statement}
 use Rattle.host.proofs.serve.instruction_words.Tie as tie
@@ -81,7 +80,6 @@ same-length c = search needs
 
 returns : tie.Need-returns
 returns c =
-    λ buffer.
     let performed = c .before in
     let read = performed .before in
     let told = read .before .before in
@@ -89,7 +87,7 @@ returns c =
     let start = known .before .before .before in
     let stepped = rw (read .«record» .ensures) at (performed .isk .ensures) in
     rw (told .match .keys1)
-    (kept-call (start .args .records .now) _ _ _ _ _ _ (performed .isk .result) (start .pre .0 .2) (with-any-buffer _ _ _ _ _ _ tt stepped)
+    (kept-instruction (start .args .records .now) _ _ _ _ _ (performed .isk .result) tt (start .pre .0 .2) stepped
     (λ i. omega (arith, known .slice-known2 .given i)) (c .pack .ensures))
 
 same-length-2 : tie.Need-same-length-2
@@ -97,7 +95,6 @@ same-length-2 c = search needs
 
 returns-2 : tie.Need-returns-2
 returns-2 c =
-    λ buffer.
     let performed = c .before .before .before in
     let read = performed .before in
     let told = read .before .before in
@@ -105,7 +102,7 @@ returns-2 c =
     let start = known .before .before .before in
     let stepped = rw (read .record2 .ensures) at (performed .ssk .ensures) in
     rw (told .match .keys2)
-    (kept-call (start .args .records .now) _ _ _ _ _ _ (performed .ssk .result) (start .pre .0 .2) (with-any-buffer _ _ _ _ _ _ tt stepped)
+    (kept-instruction (start .args .records .now) _ _ _ _ _ (performed .ssk .result) tt (start .pre .0 .2) stepped
     (λ i. omega (arith, known .slice-known2 .given i)) (c .pack2 .ensures))
 
 same-length-3 : tie.Need-same-length-3
@@ -116,7 +113,6 @@ same-length-4 c = search needs
 
 returns-3 : tie.Need-returns-3
 returns-3 c =
-    λ buffer.
     let written = c .before .before in
     let performed = written .before .before .before in
     let read = performed .before in
@@ -125,15 +121,14 @@ returns-3 c =
     let start = known .before .before .before in
     let stepped = rw (read .record3 .ensures) at (performed .rrb .ensures) in
     rw (told .match .keys3)
-    (served-call (start .args .records .now) _ _ _ _ _ _ (performed .rrb .result .answer) (start .pre .0 .2) (with-any-buffer _ _ _ _ _ _ tt stepped)
-    (λ i. omega (arith, known .slice-known2 .given i)) (written .write-back .ensures .0) (written .write-back .ensures .1))
+    (served-instruction (start .args .records .now) _ _ _ _ _ (performed .rrb .result .answer) tt (start .pre .0 .2) stepped
+    (λ i. omega (arith, known .slice-known2 .given i)) (written .write-back .ensures .1) (written .write-back .ensures .0))
 
 same-length-5 : tie.Need-same-length-5
 same-length-5 c = search needs
 
 returns-4 : tie.Need-returns-4
 returns-4 c =
-    λ buffer.
     let performed = c .before in
     let read = performed .before in
     let told = read .before .before in
@@ -141,7 +136,7 @@ returns-4 c =
     let start = known .before .before .before in
     let stepped = rw (read .record4 .ensures) at (performed .iske .ensures) in
     rw (told .match .keys4)
-    (kept-call (start .args .records .now) _ _ _ _ _ _ (performed .iske .result) (start .pre .0 .2) (with-any-buffer _ _ _ _ _ _ tt stepped)
+    (kept-instruction (start .args .records .now) _ _ _ _ _ (performed .iske .result) tt (start .pre .0 .2) stepped
     (λ i. omega (arith, known .slice-known2 .given i)) (c .pack3 .ensures))
 
 same-length-6 : tie.Need-same-length-6
@@ -149,7 +144,6 @@ same-length-6 c = search needs
 
 returns-5 : tie.Need-returns-5
 returns-5 c =
-    λ buffer.
     let performed = c .before .before .before in
     let read = performed .before in
     let told = read .before .before in
@@ -157,7 +151,7 @@ returns-5 c =
     let start = known .before .before .before in
     let stepped = rw (read .record5 .ensures) at (performed .sske .ensures) in
     rw (told .match .keys5)
-    (kept-call (start .args .records .now) _ _ _ _ _ _ (performed .sske .result) (start .pre .0 .2) (with-any-buffer _ _ _ _ _ _ tt stepped)
+    (kept-instruction (start .args .records .now) _ _ _ _ _ (performed .sske .result) tt (start .pre .0 .2) stepped
     (λ i. omega (arith, known .slice-known2 .given i)) (c .pack4 .ensures))
 
 same-length-7 : tie.Need-same-length-7
@@ -168,7 +162,6 @@ same-length-8 c = search needs
 
 returns-6 : tie.Need-returns-6
 returns-6 c =
-    λ buffer.
     let written = c .before .before in
     let performed = written .before .before .before in
     let read = performed .before in
@@ -177,8 +170,8 @@ returns-6 c =
     let start = known .before .before .before in
     let stepped = rw (read .record6 .ensures) at (performed .rrbe .ensures) in
     rw (told .match .keys6)
-    (served-call (start .args .records .now) _ _ _ _ _ _ (performed .rrbe .result .answer) (start .pre .0 .2) (with-any-buffer _ _ _ _ _ _ tt stepped)
-    (λ i. omega (arith, known .slice-known2 .given i)) (written .write-back2 .ensures .0) (written .write-back2 .ensures .1))
+    (served-instruction (start .args .records .now) _ _ _ _ _ (performed .rrbe .result .answer) tt (start .pre .0 .2) stepped
+    (λ i. omega (arith, known .slice-known2 .given i)) (written .write-back2 .ensures .1) (written .write-back2 .ensures .0))
 
 same-length-9 : tie.Need-same-length-9
 same-length-9 c = search needs

@@ -1,7 +1,6 @@
--- `prefix_words` passes the instruction on with the record in the two words, and writes back the prefix that it leaves. No instruction looks at a
--- buffer, so what holds with the empty one holds with any. Assumes nothing.
+-- `prefix_words` passes the instruction on with the record in the two words, and writes back the prefix that it leaves.
+-- Assumes nothing.
 use native.Mathlib.Omega.{arith}
-use Rattle.machine.proofs.Requests.{with-any-buffer}
 use Rattle.host.proofs.Calls.{prefix-call}
 use borrow.Author.Needs.{needs}
 use Rattle.host.proofs.serve.prefix_words.Statement.{statement}
@@ -24,15 +23,14 @@ same-length c = search needs
 
 returns : tie.Need-returns
 returns c =
-    λ buffer.
     let put = c .before .before .before in
     let performed = put .before .before .before in
     let read = performed .before in
     let known = read .before in
     let start = known .before .before .before in
     let stepped = rw (read .«record» .ensures) at (performed .prefix-instruction .ensures) in
-    prefix-call (start .args .records .now) _ _ _ _ _ _ (performed .prefix-instruction .result .answer) (start .pre .2)
-    (with-any-buffer _ _ _ _ _ _ tt stepped) (λ i. omega (arith, known .slice-known .given i)) (put .put-prefix .ensures) (c .pack .ensures)
+    prefix-call (start .args .records .now) _ _ _ _ _ (performed .prefix-instruction .result .answer) (start .pre .2) stepped
+    (λ i. omega (arith, known .slice-known .given i)) (c .pack .ensures) (put .put-prefix .ensures)
 
 pub prefix-words-spec : {M : Type 1} → statement M
 prefix-words-spec =

@@ -1,0 +1,3 @@
+-- Laws of fields and records that several proofs share.
+pub mod Fieldwise
+pub mod Finding

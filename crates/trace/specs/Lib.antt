@@ -1,0 +1,2 @@
+-- The records of a recording (02, W1).
+pub mod Trace

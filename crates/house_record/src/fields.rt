@@ -31,5 +31,5 @@ pub fn word(bytes: &[u8], at: usize) -> u32
     if bytes.len() <= at {
         return 0;
     }
-    byte(bytes, at) + byte(bytes, at + 1) * 256 + half(bytes, at + 2) * 65536
+    half(bytes, at) + half(bytes, at + 2) * 65536
 }

@@ -42,7 +42,8 @@ returns-2 c =
     let second = told .before .before in
     let first = second .before in
     c .request-in .ensures
-    ∙ rw (first .word .ensures, second .word2 .ensures) (key-case _ 0 _ refl (sym (told .before .byte .ensures .0) ∙ told .match .keys1) (first .before .if1 .left))
+    ∙ rw (first .word .ensures, second .word2 .ensures)
+    (key-case _ 0 _ refl (sym (told .before .byte .ensures .0) ∙ told .match .keys1) (first .before .if1 .left))
 
 returns-3 : tie.Need-returns-3
 returns-3 c =
@@ -50,7 +51,8 @@ returns-3 c =
     let second = told .before .before in
     let first = second .before in
     c .request-in2 .ensures
-    ∙ rw (first .word .ensures, second .word2 .ensures) (key-case _ 1 _ refl (sym (told .before .byte .ensures .0) ∙ told .match .keys2) (first .before .if1 .left))
+    ∙ rw (first .word .ensures, second .word2 .ensures)
+    (key-case _ 1 _ refl (sym (told .before .byte .ensures .0) ∙ told .match .keys2) (first .before .if1 .left))
 
 returns-4 : tie.Need-returns-4
 returns-4 c =
@@ -58,7 +60,8 @@ returns-4 c =
     let second = told .before .before in
     let first = second .before in
     c .request-in3 .ensures
-    ∙ rw (second .word2 .ensures) (key-case _ 2 _ refl (sym (told .before .byte .ensures .0) ∙ told .match .keys3) (first .before .if1 .left))
+    ∙ rw (second .word2 .ensures)
+    (key-case _ 2 _ refl (sym (told .before .byte .ensures .0) ∙ told .match .keys3) (first .before .if1 .left))
 
 returns-5 : tie.Need-returns-5
 returns-5 c =
@@ -66,7 +69,8 @@ returns-5 c =
     let second = told .before .before in
     let first = second .before in
     c .request-in4 .ensures
-    ∙ rw (first .word .ensures, second .word2 .ensures) (key-case _ 3 _ refl (sym (told .before .byte .ensures .0) ∙ told .match .keys4) (first .before .if1 .left))
+    ∙ rw (first .word .ensures, second .word2 .ensures)
+    (key-case _ 3 _ refl (sym (told .before .byte .ensures .0) ∙ told .match .keys4) (first .before .if1 .left))
 
 returns-6 : tie.Need-returns-6
 returns-6 c =
@@ -74,7 +78,8 @@ returns-6 c =
     let second = told .before .before in
     let first = second .before in
     c .request-in5 .ensures
-    ∙ rw (first .word .ensures, second .word2 .ensures) (key-case _ 4 _ refl (sym (told .before .byte .ensures .0) ∙ told .match .keys5) (first .before .if1 .left))
+    ∙ rw (first .word .ensures, second .word2 .ensures)
+    (key-case _ 4 _ refl (sym (told .before .byte .ensures .0) ∙ told .match .keys5) (first .before .if1 .left))
 
 returns-7 : tie.Need-returns-7
 returns-7 c =
@@ -82,13 +87,16 @@ returns-7 c =
     let second = told .before .before in
     let first = second .before in
     c .request-in6 .ensures
-    ∙ rw (second .word2 .ensures) (key-case _ 5 _ refl (sym (told .before .byte .ensures .0) ∙ told .match .keys6) (first .before .if1 .left))
+    ∙ rw (second .word2 .ensures)
+    (key-case _ 5 _ refl (sym (told .before .byte .ensures .0) ∙ told .match .keys6) (first .before .if1 .left))
 
 returns-8 : tie.Need-returns-8
 returns-8 c =
     let told = c .before in
     let other = c .match .rest in
-    no-key-case _ (rw (← told .byte .ensures .0) (omega (arith, other .0 .0 .0 .0 .0 .1, other .0 .0 .0 .0 .1, other .0 .0 .0 .1, other .0 .0 .1, other .0 .1, other .1)))
+    no-key-case _
+    (rw (← told .byte .ensures .0)
+    (omega (arith, other .0 .0 .0 .0 .0 .1, other .0 .0 .0 .0 .1, other .0 .0 .0 .1, other .0 .0 .1, other .0 .1, other .1)))
     (told .before .before .before .if1 .left)
 
 pub key-in-spec : {M : Type 1} → statement M

@@ -8,14 +8,14 @@ use Rattle.house_record.proofs.fields.word.Tie as tie
 returns : tie.Need-returns
 returns c = sym (past 4 (c .before .before .args .bytes .now) (c .before .before .args .at) (c .if1 .taken))
 
-byte-requires : tie.Need-byte-requires
-byte-requires c κs = search needs
+half-requires : tie.Need-half-requires
+half-requires c κs = search needs
 
-add-byte : tie.Need-add-byte
-add-byte c = search needs
+add-half : tie.Need-add-half
+add-half c = search needs
 
-byte-requires-2 : tie.Need-byte-requires-2
-byte-requires-2 c κs = search needs
+half-requires-2 : tie.Need-half-requires-2
+half-requires-2 c κs = search needs
 
 mul-result : tie.Need-mul-result
 mul-result c = search needs
@@ -23,38 +23,14 @@ mul-result c = search needs
 add-result : tie.Need-add-result
 add-result c = search needs
 
-add-half : tie.Need-add-half
-add-half c = search needs
-
-half-requires : tie.Need-half-requires
-half-requires c κs = search needs
-
-mul-result-2 : tie.Need-mul-result-2
-mul-result-2 c = search needs
-
-add-result-2 : tie.Need-add-result-2
-add-result-2 c = search needs
-
 returns-2 : tie.Need-returns-2
 returns-2 c =
     let upper = c in
-    let second = upper .before in
-    let first = second .before in
-    let start = first .before .before .before in
-    rw (first .byte .ensures .0, second .byte2 .ensures .0, upper .half .ensures .0) (sym (four (start .args .bytes .now) (start .args .at)))
+    let lower = upper .before in
+    let start = lower .before .before .before in
+    rw (lower .half .ensures .0, upper .half2 .ensures .0) (sym (four (start .args .bytes .now) (start .args .at)))
 
 pub word-spec : {M : Type 1} → statement M
 word-spec =
     tie.close
-    (tie.spec
-    returns
-    byte-requires
-    add-byte
-    byte-requires-2
-    mul-result
-    add-result
-    add-half
-    half-requires
-    mul-result-2
-    add-result-2
-    returns-2)
+    (tie.spec returns half-requires add-half half-requires-2 mul-result add-result returns-2)

@@ -1,3 +1,4 @@
 -- Laws of fields and records that several proofs share.
 pub mod Fieldwise
 pub mod Finding
+pub mod LittleBytes

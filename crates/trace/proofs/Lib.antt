@@ -1,2 +1,3 @@
 -- Laws of the reader.
 pub mod Bodies
+pub mod Front

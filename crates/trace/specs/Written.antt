@@ -1,0 +1,78 @@
+-- The records of a recording as bytes (02, W1): what is written for a request and for a remark. The reader does not use these definitions; laws
+-- hold its reading to them.
+use Prim.Native.Nat.{ℕ, _+_, _≤_, _<_}
+use mathlib.Core.Path.{_≡_}
+use mathlib.Core.List.{List, [], _++_}
+use lib.ListN.{length}
+use Rattle.machine.specs.declared.Request.{Request}
+use Rattle.machine.specs.declared.Request.the-variants.{Access, Key, Prefix}
+use Rattle.machine.specs.declared.AccessKind.the-variants.{Fetch, Store}
+use Rattle.machine.specs.declared.KeyInstruction.the-variants.{Isk, Ssk, Rrb, Iske, Sske, Rrbe}
+use Rattle.machine.specs.declared.PrefixInstruction.the-variants.{SetPrefix, StorePrefix}
+use Rattle.house_record.specs.Little.{littleBytes}
+use Rattle.house_record.specs.Records.{recordBytes}
+use Rattle.trace.specs.Trace.{dataOf}
+
+-- processor (1 byte), address (4), length (2)
+unfoldable pub accessBody : (processor address count : ℕ) → List ℕ
+accessBody processor address count = littleBytes 1 processor ++ littleBytes 4 address ++ littleBytes 2 count
+
+-- processor, instruction, R1 (4), R2 or address (4)
+unfoldable pub keyBody : (processor instruction r1 r2 : ℕ) → List ℕ
+keyBody processor instruction r1 r2 = littleBytes 1 processor ++ littleBytes 1 instruction ++ littleBytes 4 r1 ++ littleBytes 4 r2
+
+-- processor, operation, word (4)
+unfoldable pub prefixBody : (processor operation word : ℕ) → List ℕ
+prefixBody processor operation word = littleBytes 1 processor ++ littleBytes 1 operation ++ littleBytes 4 word
+
+-- The record that holds a request of a processor. The text is the data of a store. The ignored word is R1 in RRB and RRBE and the word in
+-- STORE PREFIX, of which a request has none
+unfoldable pub requestBytes : (processor ignored : ℕ) → Request → (text : List ℕ) → List ℕ
+requestBytes processor ignored (Access Fetch address count) text = recordBytes 1 (accessBody processor address count)
+requestBytes processor ignored (Access Store address count) text = recordBytes 2 (accessBody processor address count ++ text)
+requestBytes processor ignored (Key (Isk r1 r2)) text = recordBytes 3 (keyBody processor 0 r1 r2)
+requestBytes processor ignored (Key (Ssk r1 r2)) text = recordBytes 3 (keyBody processor 1 r1 r2)
+requestBytes processor ignored (Key (Rrb address)) text = recordBytes 3 (keyBody processor 2 ignored address)
+requestBytes processor ignored (Key (Iske r1 r2)) text = recordBytes 3 (keyBody processor 3 r1 r2)
+requestBytes processor ignored (Key (Sske r1 r2)) text = recordBytes 3 (keyBody processor 4 r1 r2)
+requestBytes processor ignored (Key (Rrbe r2)) text = recordBytes 3 (keyBody processor 5 ignored r2)
+requestBytes processor ignored (Prefix (SetPrefix word)) text = recordBytes 4 (prefixBody processor 0 word)
+requestBytes processor ignored (Prefix StorePrefix) text = recordBytes 4 (prefixBody processor 1 ignored)
+
+-- the record that holds a remark
+unfoldable pub remarkBytes : List ℕ → List ℕ
+remarkBytes text = recordBytes 255 text
+
+-- What a record can hold: a processor number of one byte, words of four, the length of an access in two. A store has exactly as many data bytes
+-- as its length says, and at most 503, with which the record's length is 512. Other requests have none
+abbrev pub Word : ℕ → Type 0
+Word w = w < 4294967296
+
+abbrev pub Operands : Request → (text : List ℕ) → Type 0
+Operands (Access Fetch address count) text = Word address × (count < 65536) × (text ≡ [])
+Operands (Access Store address count) text = Word address × (count ≤ 503) × (length text ≡ count)
+Operands (Key (Isk r1 r2)) text = Word r1 × Word r2 × (text ≡ [])
+Operands (Key (Ssk r1 r2)) text = Word r1 × Word r2 × (text ≡ [])
+Operands (Key (Rrb address)) text = Word address × (text ≡ [])
+Operands (Key (Iske r1 r2)) text = Word r1 × Word r2 × (text ≡ [])
+Operands (Key (Sske r1 r2)) text = Word r1 × Word r2 × (text ≡ [])
+Operands (Key (Rrbe r2)) text = Word r2 × (text ≡ [])
+Operands (Prefix (SetPrefix word)) text = Word word × (text ≡ [])
+Operands (Prefix StorePrefix) text = text ≡ []
+
+abbrev pub Holds : (processor ignored : ℕ) → Request → (text : List ℕ) → Type 0
+Holds processor ignored r text = (processor < 256) × Word ignored × Operands r text
+
+-- the size of that record: two bytes more than the length that it states
+abbrev pub requestSize : Request → ℕ
+requestSize (Access Fetch address count) = 11
+requestSize (Access Store address count) = 11 + count
+requestSize (Key k) = 14
+requestSize (Prefix p) = 10
+
+-- the data of a request whose record is in front and has this size
+abbrev pub textOf : Request → List ℕ → ℕ → List ℕ
+textOf (Access Fetch address count) s size = []
+textOf (Access Store address count) s size = dataOf s size
+textOf (Key k) s size = []
+textOf (Prefix p) s size = []

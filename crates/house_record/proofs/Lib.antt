@@ -2,3 +2,4 @@
 pub mod Fieldwise
 pub mod Finding
 pub mod LittleBytes
+pub mod RecordBytes

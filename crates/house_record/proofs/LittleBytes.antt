@@ -6,8 +6,8 @@ use native.Mathlib.Numerals.{add-one}
 use native.Mathlib.Omega.{arith}
 use mathlib.Core.Path.{_≡_, refl, ap, _∙_}
 use mathlib.Core.List.{List, [], _∷_, _++_}
-use lib.ListN.{length, getD, take, drop, List·getD-append}
-use lib.Seq.{getD-take, getD-drop, getD-append-add, drop-cons}
+use lib.ListN.{length, getD, take, drop, take-append-drop, List·getD-append}
+use lib.Seq.{getD-take, getD-drop, getD-append-add, drop-cons, drop-drop}
 use Rattle.house_record.specs.Little.{little, littleBytes}
 
 -- the same bytes give the same number
@@ -71,3 +71,7 @@ module _ (s : List ℕ) (bytes : (i : ℕ) → getD s i 0 < 256) where
       let low : (b + 256 * v) % 256 ≡ b = omega (arith, bytes at) in
       let high : (b + 256 * v) / 256 ≡ v = omega (arith, bytes at) in
       rw (low, high, written-little n (at + 1) (omega arith), drop-cons s at 0 (omega arith), add-one at)
+
+  -- the number at a place and what follows it
+  pub little-next : (n at : ℕ) → at + n ≤ length s → drop at s ≡ littleBytes n (little n s at) ++ drop (at + n) s
+  little-next n at h = rw (written-little n at h, ← (drop-drop n at s), take-append-drop n (drop at s))

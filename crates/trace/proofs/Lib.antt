@@ -1,3 +1,4 @@
 -- Laws of the reader.
 pub mod Bodies
 pub mod Front
+pub mod Written

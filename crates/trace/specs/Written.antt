@@ -43,36 +43,43 @@ requestBytes processor ignored (Prefix StorePrefix) text = recordBytes 4 (prefix
 unfoldable pub remarkBytes : List ℕ → List ℕ
 remarkBytes text = recordBytes 255 text
 
--- What a record can hold: a processor number of one byte, words of four, the length of an access in two. A store has exactly as many data bytes
--- as its length says, and at most 503, with which the record's length is 512. Other requests have none
+-- What a record can hold: a processor number of one byte, words of four, the length of an access in two. The length of a store is at most 503,
+-- with which the record's length is 512
 abbrev pub Word : ℕ → Type 0
 Word w = w < 4294967296
 
-abbrev pub Operands : Request → (text : List ℕ) → Type 0
-Operands (Access Fetch address count) text = Word address × (count < 65536) × (text ≡ [])
-Operands (Access Store address count) text = Word address × (count ≤ 503) × (length text ≡ count)
-Operands (Key (Isk r1 r2)) text = Word r1 × Word r2 × (text ≡ [])
-Operands (Key (Ssk r1 r2)) text = Word r1 × Word r2 × (text ≡ [])
-Operands (Key (Rrb address)) text = Word address × (text ≡ [])
-Operands (Key (Iske r1 r2)) text = Word r1 × Word r2 × (text ≡ [])
-Operands (Key (Sske r1 r2)) text = Word r1 × Word r2 × (text ≡ [])
-Operands (Key (Rrbe r2)) text = Word r2 × (text ≡ [])
-Operands (Prefix (SetPrefix word)) text = Word word × (text ≡ [])
-Operands (Prefix StorePrefix) text = text ≡ []
+abbrev pub Operands : Request → Type 0
+Operands (Access Fetch address count) = Word address × (count < 65536)
+Operands (Access Store address count) = Word address × (count ≤ 503)
+Operands (Key (Isk r1 r2)) = Word r1 × Word r2
+Operands (Key (Ssk r1 r2)) = Word r1 × Word r2
+Operands (Key (Rrb address)) = Word address
+Operands (Key (Iske r1 r2)) = Word r1 × Word r2
+Operands (Key (Sske r1 r2)) = Word r1 × Word r2
+Operands (Key (Rrbe r2)) = Word r2
+Operands (Prefix (SetPrefix word)) = Word word
+Operands (Prefix StorePrefix) = Unit
+
+-- a store has exactly as many data bytes as its length says, and another request has none
+abbrev pub Data : Request → (text : List ℕ) → Type 0
+Data (Access Fetch address count) text = text ≡ []
+Data (Access Store address count) text = length text ≡ count
+Data (Key k) text = text ≡ []
+Data (Prefix i) text = text ≡ []
 
 abbrev pub Holds : (processor ignored : ℕ) → Request → (text : List ℕ) → Type 0
-Holds processor ignored r text = (processor < 256) × Word ignored × Operands r text
+Holds processor ignored r text = (processor < 256) × Word ignored × Operands r × Data r text
 
 -- the size of that record: two bytes more than the length that it states
 abbrev pub requestSize : Request → ℕ
 requestSize (Access Fetch address count) = 11
 requestSize (Access Store address count) = 11 + count
 requestSize (Key k) = 14
-requestSize (Prefix p) = 10
+requestSize (Prefix i) = 10
 
 -- the data of a request whose record is in front and has this size
 abbrev pub textOf : Request → List ℕ → ℕ → List ℕ
 textOf (Access Fetch address count) s size = []
 textOf (Access Store address count) s size = dataOf s size
 textOf (Key k) s size = []
-textOf (Prefix p) s size = []
+textOf (Prefix i) s size = []

@@ -2,11 +2,12 @@
 -- written again, gives the same bytes. Assumes nothing.
 use Prim.Native.Nat.{ℕ, zero, suc, _+_, _*_, _^_, _/_, _%_, _≤_, _<_}
 use native.Mathlib.Nat.{add-zero, add-assoc}
+use native.Mathlib.Decide.{decLt}
 use native.Mathlib.Numerals.{add-one}
 use native.Mathlib.Omega.{arith}
 use mathlib.Core.Path.{_≡_, refl, ap, _∙_}
 use mathlib.Core.List.{List, [], _∷_, _++_}
-use lib.ListN.{length, getD, take, drop, take-append-drop, List·getD-append}
+use lib.ListN.{length, getD, take, drop, length-take, take-append-drop, List·getD-append, List·getD-eq-default}
 use lib.Seq.{getD-take, getD-drop, getD-append-add, drop-cons, drop-drop}
 use Rattle.house_record.specs.Little.{little, littleBytes}
 
@@ -55,8 +56,22 @@ pub little-written-at : (n v : ℕ) (front rest : List ℕ) → v < 256 ^ n → 
 little-written-at n v front rest h =
     rw (← (add-zero (length front))) (little-after n front (littleBytes n v ++ rest) 0 ∙ little-written n v rest h)
 
--- What is read, written again. A byte past the end counts as zero, so that all of them are below 256 where those of the list are.
-module _ (s : List ℕ) (bytes : (i : ℕ) → getD s i 0 < 256) where
+-- What is read, written again.
+-- every element of a list is a byte; past the end zero is read, which is one
+abbrev pub Bytes : List ℕ → Type 0
+Bytes s = (i : ℕ) → getD s i 0 < 256
+
+pub bytes-drop : (k : ℕ) (s : List ℕ) → Bytes s → Bytes (drop k s)
+bytes-drop k s bytes i = rw (getD-drop k s i 0) (bytes (k + i))
+
+pub bytes-take : (k : ℕ) (s : List ℕ) → Bytes s → Bytes (take k s)
+bytes-take k s bytes i = go (decLt i k)
+  where
+    go : Dec (i < k) → getD (take k s) i 0 < 256
+    go (yes h) = rw (getD-take k s i 0 h) (bytes i)
+    go (no h) = rw (List·getD-eq-default (take k s) 0 {n = i} (rw (length-take k s) (omega arith))) (omega arith)
+
+module _ (s : List ℕ) (bytes : Bytes s) where
   pub little-bound : (n at : ℕ) → little n s at < 256 ^ n
   unfolding little
   little-bound zero at = omega arith

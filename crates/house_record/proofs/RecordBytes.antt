@@ -6,14 +6,14 @@ use native.Mathlib.Omega.{arith}
 use mathlib.Core.Path.{_≡_, refl, sym, ap, _∙_}
 use mathlib.Core.Bool.{Bool, true, false}
 use mathlib.Core.List.{List, _++_}
-use lib.ListN.{length, getD, take, drop, length-take, length-drop, length-append, take-append-drop}
+use lib.ListN.{length, take, drop, length-take, length-drop, length-append, take-append-drop}
 use lib.Seq.{drop-drop, take-append-seam, drop-append-seam}
 use lib.Dec.{leb}
 use borrow.Author.Tests.{leb-true, leb-false}
 use Rattle.house_record.specs.declared.Found.the-variants.{Whole}
 use Rattle.house_record.specs.Little.{little, littleBytes}
 use Rattle.house_record.specs.Records.{recordBytes, found}
-use Rattle.house_record.proofs.LittleBytes.{little-written, little-written-at, little-next, little-drop}
+use Rattle.house_record.proofs.LittleBytes.{Bytes, little-written, little-written-at, little-next, little-drop}
 use Rattle.house_record.proofs.Finding.{whole, whole-inside}
 
 -- What is written is found.
@@ -40,7 +40,7 @@ module _ (kind : ℕ) (body : List ℕ) where
     after-record = rw (← length-recordBytes) (drop-append-seam (recordBytes kind body) rest)
 
 -- What is found was written.
-pub found-was-written : (s : List ℕ) → ((i : ℕ) → getD s i 0 < 256) → (stated kind : ℕ) → found s 0 ≡ Whole stated kind
+pub found-was-written : (s : List ℕ) → Bytes s → (stated kind : ℕ) → found s 0 ≡ Whole stated kind
     → s ≡ recordBytes kind (take (stated - 2) (drop 4 s)) ++ drop (2 + stated) s
 unfolding recordBytes littleBytes
 found-was-written s bytes stated kind e =
@@ -70,6 +70,6 @@ found-drop s at =
     let n : ℕ = little 2 s at in
     let ended : leb (length s - at) 0 ≡ leb (length s) at = same-test (length s - at) 0 (length s) at (omega arith) (omega arith) in
     let there : leb (2 + n) (length s - at) ≡ leb (at + 2 + n) (length s) =
-        same-test (2 + n) (length s - at) (at + 2 + n) (length s) (omega arith) (omega arith)
-      in
+    same-test (2 + n) (length s - at) (at + 2 + n) (length s) (omega arith) (omega arith)
+    in
     rw (little-drop 2 at s 0, little-drop 2 at s 2, length-drop at s, add-zero at, ended, there)

@@ -1,8 +1,8 @@
 -- What stands in front of a list of bytes. A record that fits (its stated length is 2 to 512, and all that it counts is there) is read by its
 -- kind and its body; where none fits, the list is at its end or bad. So a record is read from its own bytes, which lie within the list and are
--- 514 at most, and what follows them does not matter. Assumes nothing.
+-- 514 at most, and what follows them does not matter. The sentences of 02 about bad records, and its case. Assumes nothing.
 use Prim.Native.Nat.{ℕ, zero, suc, _+_, _-_, _≤_, _<_}
-use native.Mathlib.Decide.{decLe}
+use native.Mathlib.Decide.{decLe, ℕ-discrete}
 use native.Mathlib.Omega.{arith}
 use mathlib.Core.Path.{_≡_, refl, sym, ap, _∙_}
 use mathlib.Core.Bool.{Bool, true, false, cond, _&&_}
@@ -19,7 +19,9 @@ use Rattle.machine.specs.declared.AccessKind.the-variants.{Fetch, Store}
 use Rattle.house_record.specs.declared.Found.the-variants.{Whole, Short}
 use Rattle.house_record.specs.Little.{little}
 use Rattle.house_record.specs.Records.{found, there}
-use Rattle.house_record.proofs.LittleBytes.{little-append}
+use Rattle.house_record.proofs.LittleBytes.{little-append, little-take, little-drop}
+use Rattle.trace.proofs.Bodies.{kind-1, kind-2, kind-3, kind-4, kind-255}
+use Rattle.trace.proofs.Bodies.{other-kind, other-fetch, other-store, other-key, other-prefix, long-remark, no-key-case, no-prefix-case}
 use Rattle.trace.specs.declared.Read.{Read}
 use Rattle.trace.specs.declared.Read.the-variants.{Request as ARequest, Remark, Bad, End}
 use Rattle.trace.specs.Trace.{requestIn, fetchIn, storeIn, oneOf, keyRequests, keyIn, prefixRequests, prefixIn, remarkIn, bodyOf, recordRead, readOf}
@@ -33,7 +35,7 @@ Fits s = (2 ≤ little 2 s 0) × (little 2 s 0 ≤ 512) × (2 + little 2 s 0 ≤
 abbrev pub bodyIn : List ℕ → List ℕ
 bodyIn s = take (little 2 s 0 - 2) (drop 4 s)
 
--- The sentences about lengths.
+-- The sentences of 02 about lengths.
 pub nothing-is-end : readOf [] ≡ End
 unfolding readOf recordRead found
 nothing-is-end = refl
@@ -232,3 +234,58 @@ module _ (s : List ℕ) (p : ℕ) where
 
 pub remark-within : (s : List ℕ) (size : ℕ) → readOf s ≡ Remark size → (4 ≤ size) × (size ≤ length s) × (size ≤ 260)
 remark-within s size e = rw e at (read-within s)
+
+-- The sentences of 02 about kinds, instructions and operations, and about the length that each kind wants.
+-- a field of the body has its place in the list
+pub field-in-front : (s : List ℕ) → Fits s → (n at : ℕ) → at + n ≤ length (bodyIn s) → little n (bodyIn s) at ≡ little n s (4 + at)
+field-in-front s f n at h = little-take n (little 2 s 0 - 2) (drop 4 s) at (omega (arith, stated-length s f)) ∙ little-drop n 4 s at
+
+module _ (s : List ℕ) (some-bytes : length s ≢ 0) where
+  bad-unless : (Fits s → Bad ≡ bodyOf (little 2 s 2) (bodyIn s)) → readOf s ≡ Bad
+  bad-unless bad = by-front (λ x. x ≡ Bad) s (λ e. absurd (some-bytes (ap length e))) (λ n. refl) (λ f. sym (bad f))
+
+  pub other-kind-is-bad : little 2 s 2 ≢ 1 → little 2 s 2 ≢ 2 → little 2 s 2 ≢ 3 → little 2 s 2 ≢ 4 → little 2 s 2 ≢ 255 → readOf s ≡ Bad
+  other-kind-is-bad a b c d e = bad-unless (λ f. other-kind (bodyIn s) (little 2 s 2) a b c d e)
+
+  pub wrong-fetch-length : little 2 s 2 ≡ 1 → little 2 s 0 ≢ 9 → readOf s ≡ Bad
+  wrong-fetch-length k n = bad-unless (λ f. other-fetch (bodyIn s) (λ e. n (omega (arith, stated-length s f))) ∙ kind-1 (bodyIn s) _ k)
+
+  pub wrong-store-length : little 2 s 2 ≡ 2 → little 2 s 0 ≢ 9 + little 2 s 9 → readOf s ≡ Bad
+  wrong-store-length k n = bad-unless (λ f. other-store (bodyIn s) (little 2 (bodyIn s) 5) refl (λ e. n (sized f e)) ∙ kind-2 (bodyIn s) _ k)
+    where
+      sized : Fits s → length (bodyIn s) ≡ 7 + little 2 (bodyIn s) 5 → little 2 s 0 ≡ 9 + little 2 s 9
+      sized f e = omega (arith, stated-length s f, field-in-front s f 2 5 (omega arith))
+
+  pub wrong-key-length : little 2 s 2 ≡ 3 → little 2 s 0 ≢ 12 → readOf s ≡ Bad
+  wrong-key-length k n = bad-unless (λ f. other-key (bodyIn s) (λ e. n (omega (arith, stated-length s f))) ∙ kind-3 (bodyIn s) _ k)
+
+  pub wrong-prefix-length : little 2 s 2 ≡ 4 → little 2 s 0 ≢ 8 → readOf s ≡ Bad
+  wrong-prefix-length k n = bad-unless (λ f. other-prefix (bodyIn s) (λ e. n (omega (arith, stated-length s f))) ∙ kind-4 (bodyIn s) _ k)
+
+  pub wrong-remark-length : little 2 s 2 ≡ 255 → 258 < little 2 s 0 → readOf s ≡ Bad
+  wrong-remark-length k n = bad-unless (λ f. long-remark (bodyIn s) (omega (arith, stated-length s f)) ∙ kind-255 (bodyIn s) _ k)
+
+  pub other-instruction-is-bad : little 2 s 2 ≡ 3 → 5 < little 1 s 5 → readOf s ≡ Bad
+  other-instruction-is-bad k i = go (ℕ-discrete (little 2 s 0) 12)
+    where
+      go : Dec (little 2 s 0 ≡ 12) → readOf s ≡ Bad
+      go (yes e) = bad-unless (λ f. no-key-case (bodyIn s) (over f) (omega (arith, stated-length s f)) ∙ kind-3 (bodyIn s) _ k)
+        where
+          over : Fits s → 6 ≤ little 1 (bodyIn s) 1
+          over f = omega (arith, field-in-front s f 1 1 (omega (arith, stated-length s f)))
+      go (no n) = wrong-key-length k n
+
+  pub other-operation-is-bad : little 2 s 2 ≡ 4 → 1 < little 1 s 5 → readOf s ≡ Bad
+  other-operation-is-bad k i = go (ℕ-discrete (little 2 s 0) 8)
+    where
+      go : Dec (little 2 s 0 ≡ 8) → readOf s ≡ Bad
+      go (yes e) = bad-unless (λ f. no-prefix-case (bodyIn s) (over f) (omega (arith, stated-length s f)) ∙ kind-4 (bodyIn s) _ k)
+        where
+          over : Fits s → 2 ≤ little 1 (bodyIn s) 1
+          over f = omega (arith, field-in-front s f 1 1 (omega (arith, stated-length s f)))
+      go (no n) = wrong-prefix-length k n
+
+-- 02's case
+pub given-case : readOf (9 ∷ 0 ∷ 1 ∷ 0 ∷ 0 ∷ 0 ∷ 0 ∷ 0 ∷ 0 ∷ 1 ∷ 0 ∷ []) ≡ ARequest 0 (Access Fetch 0 1) 11
+unfolding readOf recordRead bodyOf fetchIn found little
+given-case = refl

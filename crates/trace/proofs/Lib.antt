@@ -2,3 +2,4 @@
 pub mod Bodies
 pub mod Front
 pub mod Written
+pub mod ReadBack

@@ -7,7 +7,7 @@ use mathlib.Core.List.{List, [], _++_}
 use mathlib.Core.Option.{some}
 use lib.ListN.{length, getElem?}
 use lib.Seq.{take-at}
-use borrow.Author.Tests.{le-leb, eq-eqb}
+use borrow.Author.Tests.{le-leb}
 use Rattle.machine.specs.declared.Request.{Request}
 use Rattle.machine.specs.declared.Request.the-variants.{Access, Key, Prefix}
 use Rattle.machine.specs.declared.AccessKind.the-variants.{Fetch, Store}
@@ -19,7 +19,7 @@ use Rattle.house_record.proofs.LittleBytes.{little-written, little-written-at}
 use Rattle.house_record.proofs.RecordBytes.{length-recordBytes, found-record, body-of-record}
 use Rattle.trace.proofs.Bodies.{stored, key-case, prefix-case, remarked}
 use Rattle.trace.specs.declared.Read.the-variants.{Request as ARequest, Remark}
-use Rattle.trace.specs.Trace.{requestIn, fetchIn, storeIn, keyRequests, keyIn, prefixRequests, prefixIn, remarkIn, bodyOf, recordRead, readOf, dataOf}
+use Rattle.trace.specs.Trace.{fetchIn, keyRequests, prefixRequests, bodyOf, recordRead, readOf}
 use Rattle.trace.specs.Written.{accessBody, keyBody, prefixBody, requestBytes, remarkBytes, Word, Data, Holds, requestSize, textOf}
 
 pub record-is-read : (kind : ℕ) (body rest : List ℕ) → kind < 65536 → length body ≤ 510 → readOf (recordBytes kind body ++ rest) ≡ bodyOf kind body
@@ -34,10 +34,11 @@ module _ (p : ℕ) (hp : p < 256) (rest : List ℕ) where
     access-fields : (little 1 (accessBody p address count ++ text) 0 ≡ p) × (little 4 (accessBody p address count ++ text) 1 ≡ address)
         × (little 2 (accessBody p address count ++ text) 5 ≡ count)
     unfolding accessBody littleBytes
-    access-fields =
-        (little-written 1 p (littleBytes 4 address ++ littleBytes 2 count ++ text) hp,
-        little-written-at 4 address (littleBytes 1 p) (littleBytes 2 count ++ text) ha,
-        little-written-at 2 count (littleBytes 1 p ++ littleBytes 4 address) text hc)
+    access-fields = (
+      little-written 1 p (littleBytes 4 address ++ littleBytes 2 count ++ text) hp,
+      little-written-at 4 address (littleBytes 1 p) (littleBytes 2 count ++ text) ha,
+      little-written-at 2 count (littleBytes 1 p ++ littleBytes 4 address) text hc,
+    )
 
     length-access : length (accessBody p address count ++ text) ≡ 7 + length text
     unfolding accessBody littleBytes
@@ -71,8 +72,8 @@ module _ (p : ℕ) (hp : p < 256) (rest : List ℕ) where
         let first : little 4 b 2 ≡ r1 = little-written-at 4 r1 (littleBytes 1 p ++ littleBytes 1 i) (littleBytes 4 r2) h1 in
         let second : little 4 b 6 ≡ r2 = little-written-at 4 r2 (littleBytes 1 p ++ littleBytes 1 i ++ littleBytes 4 r1) [] h2 in
         let told : getElem? (keyRequests (little 4 b 2) (little 4 b 6)) i ≡ some r =
-            ap (λ (x : ℕ). getElem? (keyRequests x (little 4 b 6)) i) first ∙ ap (λ (x : ℕ). getElem? (keyRequests r1 x) i) second ∙ e
-          in
+        ap (λ (x : ℕ). getElem? (keyRequests x (little 4 b 6)) i) first ∙ ap (λ (x : ℕ). getElem? (keyRequests r1 x) i) second ∙ e
+        in
         record-is-read 3 b rest (omega arith) (omega arith) ∙ sym (key-case b i r told number refl) ∙ rw processor
 
     prefix-is-read : (word : ℕ) → Word word → (r : Request) → getElem? (prefixRequests word) i ≡ some r
@@ -128,6 +129,10 @@ written-data p w (Key k) text rest e = sym e
 written-data p w (Prefix i) text rest e = sym e
 
 -- A remark is read as a remark.
+pub length-remarkBytes : (text : List ℕ) → length (remarkBytes text) ≡ 4 + length text
+unfolding remarkBytes
+length-remarkBytes text = length-recordBytes 255 text
+
 pub remark-is-read : (text rest : List ℕ) → length text ≤ 256 → readOf (remarkBytes text ++ rest) ≡ Remark (4 + length text)
 unfolding remarkBytes bodyOf
 remark-is-read text rest h = record-is-read 255 text rest (omega arith) (omega arith) ∙ sym (remarked text h)

@@ -1,9 +1,10 @@
 -- The records of a recording as bytes (02, W1): what is written for a request and for a remark. The reader does not use these definitions; laws
 -- hold its reading to them.
-use Prim.Native.Nat.{ℕ, _+_, _≤_, _<_}
+use Prim.Native.Nat.{ℕ, _+_, _-_, _≤_, _<_}
 use mathlib.Core.Path.{_≡_}
+use mathlib.Core.Logic.{_≢_}
 use mathlib.Core.List.{List, [], _++_}
-use lib.ListN.{length}
+use lib.ListN.{length, take, drop}
 use Rattle.machine.specs.declared.Request.{Request}
 use Rattle.machine.specs.declared.Request.the-variants.{Access, Key, Prefix}
 use Rattle.machine.specs.declared.AccessKind.the-variants.{Fetch, Store}
@@ -11,6 +12,8 @@ use Rattle.machine.specs.declared.KeyInstruction.the-variants.{Isk, Ssk, Rrb, I
 use Rattle.machine.specs.declared.PrefixInstruction.the-variants.{SetPrefix, StorePrefix}
 use Rattle.house_record.specs.Little.{littleBytes}
 use Rattle.house_record.specs.Records.{recordBytes}
+use Rattle.trace.specs.declared.Read.{Read}
+use Rattle.trace.specs.declared.Read.the-variants.{Request as ARequest, Remark, Bad, End}
 use Rattle.trace.specs.Trace.{dataOf}
 
 -- processor (1 byte), address (4), length (2)
@@ -26,7 +29,7 @@ unfoldable pub prefixBody : (processor operation word : ℕ) → List ℕ
 prefixBody processor operation word = littleBytes 1 processor ++ littleBytes 1 operation ++ littleBytes 4 word
 
 -- The record that holds a request of a processor. The text is the data of a store. The ignored word is R1 in RRB and RRBE and the word in
--- STORE PREFIX, of which a request has none
+-- STORE PREFIX: the record has it, the request has not
 unfoldable pub requestBytes : (processor ignored : ℕ) → Request → (text : List ℕ) → List ℕ
 requestBytes processor ignored (Access Fetch address count) text = recordBytes 1 (accessBody processor address count)
 requestBytes processor ignored (Access Store address count) text = recordBytes 2 (accessBody processor address count ++ text)
@@ -83,3 +86,32 @@ textOf (Access Fetch address count) s size = []
 textOf (Access Store address count) s size = dataOf s size
 textOf (Key k) s size = []
 textOf (Prefix i) s size = []
+
+-- the text of a remark whose record is in front and has this size
+abbrev pub remarkText : List ℕ → ℕ → List ℕ
+remarkText s size = take (size - 4) (drop 4 s)
+
+-- a list that begins with a record of this size, which holds this request; anything may follow
+pub record RequestInFront (s : List ℕ) (processor : ℕ) (r : Request) (size : ℕ) : Type 0 where
+  pub ignored : ℕ
+  pub text : List ℕ
+  pub rest : List ℕ
+  pub holds : Holds processor ignored r text
+  pub sized : length (requestBytes processor ignored r text) ≡ size
+  pub split : s ≡ requestBytes processor ignored r text ++ rest
+
+-- a list that begins with a record of this size, which holds a remark of up to 256 bytes; anything may follow
+pub record RemarkInFront (s : List ℕ) (size : ℕ) : Type 0 where
+  pub text : List ℕ
+  pub rest : List ℕ
+  pub short : length text ≤ 256
+  pub sized : length (remarkBytes text) ≡ size
+  pub split : s ≡ remarkBytes text ++ rest
+
+-- what a reading says of a list of bytes, without the reader: it begins with that request, with that remark, it is empty, or it is none of these
+abbrev pub Says : List ℕ → Read → Type 0
+Says s (ARequest processor r size) = RequestInFront s processor r size
+Says s (Remark size) = RemarkInFront s size
+Says s End = s ≡ []
+Says s Bad =
+    (s ≢ []) × ((processor : ℕ) (r : Request) (size : ℕ) → ¬ RequestInFront s processor r size) × ((size : ℕ) → ¬ RemarkInFront s size)

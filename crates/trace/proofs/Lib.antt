@@ -3,3 +3,4 @@ pub mod Bodies
 pub mod Front
 pub mod Written
 pub mod ReadBack
+pub mod Rows

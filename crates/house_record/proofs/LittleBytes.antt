@@ -87,6 +87,6 @@ module _ (s : List ℕ) (bytes : Bytes s) where
       let high : (b + 256 * v) / 256 ≡ v = omega (arith, bytes at) in
       rw (low, high, written-little n (at + 1) (omega arith), drop-cons s at 0 (omega arith), add-one at)
 
-  -- the number at a place and what follows it
+  -- the number at an offset and what follows it
   pub little-next : (n at : ℕ) → at + n ≤ length s → drop at s ≡ littleBytes n (little n s at) ++ drop (at + n) s
   little-next n at h = rw (written-little n at h, ← (drop-drop n at s), take-append-drop n (drop at s))

@@ -15,7 +15,7 @@ use Rattle.house_record.specs.Records.{found}
 use Rattle.house_record.proofs.Finding.{whole-inside}
 use Rattle.trace.specs.declared.Read.{Read}
 use Rattle.trace.specs.declared.Read.the-variants.{Remark, Bad, End}
-use Rattle.trace.specs.Trace.{requestIn, fetchIn, storeIn, keyRequests, keyIn, prefixRequests, prefixIn, remarkIn, bodyOf, recordRead, readOf}
+use Rattle.trace.specs.Trace.{requestIn, fetchIn, storeIn, keyRequests, keyIn, prefixRequests, prefixIn, remarkIn, kindRead, recordRead, readOf}
 
 none-past : (xs : List Request) (i : ℕ) → length xs ≤ i → getElem? xs i ≡ none
 none-past [] i h = refl
@@ -76,28 +76,28 @@ module _ (body : List ℕ) where
   long-remark h = simp (lt-leb _ _ h)
 
   -- by kind
-  pub kind-1 : (k : ℕ) → k ≡ 1 → fetchIn body ≡ bodyOf k body
-  unfolding bodyOf
+  pub kind-1 : (k : ℕ) → k ≡ 1 → fetchIn body ≡ kindRead k body
+  unfolding kindRead
   kind-1 k e = simp e
 
-  pub kind-2 : (k : ℕ) → k ≡ 2 → storeIn body ≡ bodyOf k body
-  unfolding bodyOf
+  pub kind-2 : (k : ℕ) → k ≡ 2 → storeIn body ≡ kindRead k body
+  unfolding kindRead
   kind-2 k e = simp e
 
-  pub kind-3 : (k : ℕ) → k ≡ 3 → keyIn body ≡ bodyOf k body
-  unfolding bodyOf
+  pub kind-3 : (k : ℕ) → k ≡ 3 → keyIn body ≡ kindRead k body
+  unfolding kindRead
   kind-3 k e = simp e
 
-  pub kind-4 : (k : ℕ) → k ≡ 4 → prefixIn body ≡ bodyOf k body
-  unfolding bodyOf
+  pub kind-4 : (k : ℕ) → k ≡ 4 → prefixIn body ≡ kindRead k body
+  unfolding kindRead
   kind-4 k e = simp e
 
-  pub kind-255 : (k : ℕ) → k ≡ 255 → remarkIn body ≡ bodyOf k body
-  unfolding bodyOf
+  pub kind-255 : (k : ℕ) → k ≡ 255 → remarkIn body ≡ kindRead k body
+  unfolding kindRead
   kind-255 k e = simp e
 
-  pub other-kind : (k : ℕ) → (k ≡ 1 → ⊥) → (k ≡ 2 → ⊥) → (k ≡ 3 → ⊥) → (k ≡ 4 → ⊥) → (k ≡ 255 → ⊥) → Bad ≡ bodyOf k body
-  unfolding bodyOf
+  pub other-kind : (k : ℕ) → (k ≡ 1 → ⊥) → (k ≡ 2 → ⊥) → (k ≡ 3 → ⊥) → (k ≡ 4 → ⊥) → (k ≡ 255 → ⊥) → Bad ≡ kindRead k body
+  unfolding kindRead
   other-kind k a b c d e = simp (ne-eqb _ _ a, ne-eqb _ _ b, ne-eqb _ _ c, ne-eqb _ _ d, ne-eqb _ _ e)
 
 -- by the stated length
@@ -106,7 +106,7 @@ module _ (s : List ℕ) (stated kind : ℕ) where
   unfolding recordRead
   too-long h = simp (lt-leb _ _ h)
 
-  pub read-as : stated ≤ 512 → (r : Read) → r ≡ bodyOf kind (take (2 + stated - 4) (drop 4 s)) → r ≡ recordRead (Whole stated kind) s
+  pub read-as : stated ≤ 512 → (r : Read) → r ≡ kindRead kind (take (2 + stated - 4) (drop 4 s)) → r ≡ recordRead (Whole stated kind) s
   unfolding recordRead
   read-as h r e =
       let same : 2 + stated - 4 ≡ stated - 2 = omega arith in

@@ -24,7 +24,7 @@ use Rattle.trace.proofs.Bodies.{kind-1, kind-2, kind-3, kind-4, kind-25
 use Rattle.trace.proofs.Bodies.{other-kind, other-fetch, other-store, other-key, other-prefix, long-remark, no-key-case, no-prefix-case}
 use Rattle.trace.specs.declared.Read.{Read}
 use Rattle.trace.specs.declared.Read.the-variants.{Request as ARequest, Remark, Bad, End}
-use Rattle.trace.specs.Trace.{requestIn, fetchIn, storeIn, oneOf, keyRequests, keyIn, prefixRequests, prefixIn, remarkIn, bodyOf, recordRead, readOf}
+use Rattle.trace.specs.Trace.{requestIn, fetchIn, storeIn, oneOf, keyRequests, keyIn, prefixRequests, prefixIn, remarkIn, kindRead, recordRead, readOf}
 use Rattle.trace.specs.Written.{requestSize}
 
 -- the stated length is 2 to 512, and all that it counts is there
@@ -40,7 +40,7 @@ pub nothing-is-end : readOf [] ≡ End
 unfolding readOf recordRead found
 nothing-is-end = refl
 
-pub whole-is-read : (s : List ℕ) → Fits s → readOf s ≡ bodyOf (little 2 s 2) (bodyIn s)
+pub whole-is-read : (s : List ℕ) → Fits s → readOf s ≡ kindRead (little 2 s 2) (bodyIn s)
 unfolding readOf recordRead found
 whole-is-read s (least, most, inside) =
     rw (lt-leb (length s) 0 (omega arith), le-leb 2 (little 2 s 0) least, le-leb (2 + little 2 s 0) (length s) inside, le-leb (little 2 s 0) 512 most)
@@ -72,7 +72,7 @@ module _ (s : List ℕ) (some-bytes : length s ≢ 0) where
 
 -- what holds at the end, of a bad record where none fits, and of the reading of a record that fits, holds of what is read
 pub by-front : (P : Read → Type 0) (s : List ℕ) → (s ≡ [] → P End) → ((Fits s → ⊥) → P Bad)
-    → (Fits s → P (bodyOf (little 2 s 2) (bodyIn s))) → P (readOf s)
+    → (Fits s → P (kindRead (little 2 s 2) (bodyIn s))) → P (readOf s)
 by-front P [] at-end bad whole = rw nothing-is-end (at-end refl)
 by-front P (b ∷ bs) at-end bad whole = go (decLe 2 n) (decLe n 512) (decLe (2 + n) (length s))
   where
@@ -104,7 +104,7 @@ module _ (s t : List ℕ) where
   pub fits-still : Fits s → Fits (s ++ t)
   fits-still (least, most, inside) = rw (little-append 2 s t 0 (omega arith), length-append s t) (least, most, omega arith)
 
-  same-record : Fits s → readOf (s ++ t) ≡ bodyOf (little 2 s 2) (bodyIn s)
+  same-record : Fits s → readOf (s ++ t) ≡ kindRead (little 2 s 2) (bodyIn s)
   same-record f = rw (whole-is-read (s ++ t) (fits-still f), body-stays f, little-append 2 s t 2 (omega (arith, f)))
 
   fitted : 514 ≤ length s → Fits (s ++ t) → Fits s
@@ -168,8 +168,8 @@ module _ (P : Read → Type 0) (kind : ℕ) (body : List ℕ) (bad : P Bad) wher
       → (kind ≡ 3 → length body ≡ 10 → (r : Request) → getElem? keys (little 1 body 1) ≡ some r → P (requestIn body r))
       → (kind ≡ 4 → length body ≡ 6 → (r : Request) → getElem? prefixes (little 1 body 1) ≡ some r → P (requestIn body r))
       → (kind ≡ 255 → length body ≤ 256 → P (Remark (4 + length body)))
-      → P (bodyOf kind body)
-  unfolding bodyOf fetchIn storeIn keyIn prefixIn remarkIn
+      → P (kindRead kind body)
+  unfolding kindRead fetchIn storeIn keyIn prefixIn remarkIn
   by-kind fetch store key prefix remark = go (eqb kind 1) (eqb kind 2) (eqb kind 3) (eqb kind 4) (eqb kind 255) refl refl refl refl refl
     where
       go : (b1 b2 b3 b4 b5 : Bool) → eqb kind 1 ≡ b1 → eqb kind 2 ≡ b2 → eqb kind 3 ≡ b3 → eqb kind 4 ≡ b4 → eqb kind 255 ≡ b5
@@ -203,7 +203,7 @@ prefix-size word = looked-up (λ i r. requestSize r ≡ 10) (prefixRequests word
 read-within : (s : List ℕ) → Within (length s) (readOf s)
 read-within s = by-front (Within (length s)) s (λ e. tt) (λ f. tt) whole
   where
-    whole : Fits s → Within (length s) (bodyOf (little 2 s 2) (bodyIn s))
+    whole : Fits s → Within (length s) (kindRead (little 2 s 2) (bodyIn s))
     whole f =
         let b : List ℕ = bodyIn s in
         let inside : 4 + length b ≤ length s = omega (arith, f, stated-length s f) in
@@ -236,12 +236,12 @@ pub remark-within : (s : List ℕ) (size : ℕ) → readOf s ≡ Remark size →
 remark-within s size e = rw e at (read-within s)
 
 -- The sentences of 02 about kinds, instructions and operations, and about the length that each kind wants.
--- a field of the body has its place in the list
+-- a field of the body has its offset in the list
 pub field-in-front : (s : List ℕ) → Fits s → (n at : ℕ) → at + n ≤ length (bodyIn s) → little n (bodyIn s) at ≡ little n s (4 + at)
 field-in-front s f n at h = little-take n (little 2 s 0 - 2) (drop 4 s) at (omega (arith, stated-length s f)) ∙ little-drop n 4 s at
 
 module _ (s : List ℕ) (some-bytes : length s ≢ 0) where
-  bad-unless : (Fits s → Bad ≡ bodyOf (little 2 s 2) (bodyIn s)) → readOf s ≡ Bad
+  bad-unless : (Fits s → Bad ≡ kindRead (little 2 s 2) (bodyIn s)) → readOf s ≡ Bad
   bad-unless bad = by-front (λ x. x ≡ Bad) s (λ e. absurd (some-bytes (ap length e))) (λ n. refl) (λ f. sym (bad f))
 
   pub other-kind-is-bad : little 2 s 2 ≢ 1 → little 2 s 2 ≢ 2 → little 2 s 2 ≢ 3 → little 2 s 2 ≢ 4 → little 2 s 2 ≢ 255 → readOf s ≡ Bad
@@ -287,5 +287,5 @@ module _ (s : List ℕ) (some-bytes : length s ≢ 0) where
 
 -- 02's case
 pub given-case : readOf (9 ∷ 0 ∷ 1 ∷ 0 ∷ 0 ∷ 0 ∷ 0 ∷ 0 ∷ 0 ∷ 1 ∷ 0 ∷ []) ≡ ARequest 0 (Access Fetch 0 1) 11
-unfolding readOf recordRead bodyOf fetchIn found little
+unfolding readOf recordRead kindRead fetchIn found little
 given-case = refl

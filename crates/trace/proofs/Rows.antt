@@ -9,7 +9,7 @@ use Rattle.machine.specs.declared.PrefixInstruction.the-variants.{SetPrefix, St
 use Rattle.house_record.specs.Little.{little}
 use Rattle.house_record.specs.Records.{found}
 use Rattle.trace.specs.declared.Read.the-variants.{Request as ARequest, Remark, Bad, End}
-use Rattle.trace.specs.Trace.{fetchIn, storeIn, keyIn, prefixIn, remarkIn, bodyOf, recordRead, readOf, dataOf}
+use Rattle.trace.specs.Trace.{fetchIn, storeIn, keyIn, prefixIn, remarkIn, kindRead, recordRead, readOf, dataOf}
 
 -- processor 1, address 01020304, length 0506; the same with data bytes AA and BB; one data byte too few and one too many
 pub accesses : (readOf (9 ∷ 0 ∷ 1 ∷ 0 ∷ 1 ∷ 4 ∷ 3 ∷ 2 ∷ 1 ∷ 6 ∷ 5 ∷ []) ≡ ARequest 1 (Access Fetch 16909060 1286) 11)
@@ -17,7 +17,7 @@ pub accesses : (readOf (9 ∷ 0 ∷ 1 ∷ 0 ∷ 1 ∷ 4 ∷ 3 ∷ 2 ∷ 1 ∷ 6 
     × (dataOf (11 ∷ 0 ∷ 2 ∷ 0 ∷ 1 ∷ 4 ∷ 3 ∷ 2 ∷ 1 ∷ 2 ∷ 0 ∷ 170 ∷ 187 ∷ []) 13 ≡ 170 ∷ 187 ∷ [])
     × (readOf (10 ∷ 0 ∷ 2 ∷ 0 ∷ 1 ∷ 4 ∷ 3 ∷ 2 ∷ 1 ∷ 2 ∷ 0 ∷ 170 ∷ []) ≡ Bad)
     × (readOf (12 ∷ 0 ∷ 2 ∷ 0 ∷ 1 ∷ 4 ∷ 3 ∷ 2 ∷ 1 ∷ 2 ∷ 0 ∷ 170 ∷ 187 ∷ 204 ∷ []) ≡ Bad)
-unfolding readOf recordRead bodyOf fetchIn storeIn found little
+unfolding readOf recordRead kindRead fetchIn storeIn found little
 accesses = (refl, refl, refl, refl, refl)
 
 -- a key instruction of processor 1, R1 01020304, R2 or address 05060708
@@ -31,7 +31,7 @@ pub key-instructions : (readOf (instruction 0) ≡ ARequest 1 (Key (Isk 16909060
     × (readOf (instruction 4) ≡ ARequest 1 (Key (Sske 16909060 84281096)) 14)
     × (readOf (instruction 5) ≡ ARequest 1 (Key (Rrbe 84281096)) 14)
     × (readOf (instruction 6) ≡ Bad)
-unfolding readOf recordRead bodyOf keyIn found little
+unfolding readOf recordRead kindRead keyIn found little
 key-instructions = (refl, refl, refl, refl, refl, refl, refl)
 
 -- a prefix instruction of processor 255 with the word 01020304
@@ -41,7 +41,7 @@ operation o = 8 ∷ 0 ∷ 4 ∷ 0 ∷ 255 ∷ o ∷ 4 ∷ 3 ∷ 2 ∷ 1 ∷ []
 pub prefix-instructions : (readOf (operation 0) ≡ ARequest 255 (Prefix (SetPrefix 16909060)) 10)
     × (readOf (operation 1) ≡ ARequest 255 (Prefix StorePrefix) 10)
     × (readOf (operation 2) ≡ Bad)
-unfolding readOf recordRead bodyOf prefixIn found little
+unfolding readOf recordRead kindRead prefixIn found little
 prefix-instructions = (refl, refl, refl)
 
 -- a remark, an empty one, a kind whose low-order byte is that of a remark, and bytes behind a remark
@@ -51,5 +51,5 @@ pub remarks : (readOf (4 ∷ 0 ∷ 255 ∷ 0 ∷ 72 ∷ 105 ∷ []) ≡ Remark 6
     × (readOf (2 ∷ 0 ∷ 255 ∷ 0 ∷ 9 ∷ []) ≡ Remark 4)
     × (readOf [] ≡ End)
     × (readOf (9 ∷ []) ≡ Bad)
-unfolding readOf recordRead bodyOf remarkIn found little
+unfolding readOf recordRead kindRead remarkIn found little
 remarks = (refl, refl, refl, refl, refl, refl)

@@ -19,10 +19,10 @@ use Rattle.house_record.proofs.LittleBytes.{little-written, little-written-at}
 use Rattle.house_record.proofs.RecordBytes.{length-recordBytes, found-record, body-of-record}
 use Rattle.trace.proofs.Bodies.{stored, key-case, prefix-case, remarked}
 use Rattle.trace.specs.declared.Read.the-variants.{Request as ARequest, Remark}
-use Rattle.trace.specs.Trace.{fetchIn, keyRequests, prefixRequests, bodyOf, recordRead, readOf}
+use Rattle.trace.specs.Trace.{fetchIn, keyRequests, prefixRequests, kindRead, recordRead, readOf}
 use Rattle.trace.specs.Written.{accessBody, keyBody, prefixBody, requestBytes, remarkBytes, Word, Data, Holds, requestSize, textOf}
 
-pub record-is-read : (kind : ℕ) (body rest : List ℕ) → kind < 65536 → length body ≤ 510 → readOf (recordBytes kind body ++ rest) ≡ bodyOf kind body
+pub record-is-read : (kind : ℕ) (body rest : List ℕ) → kind < 65536 → length body ≤ 510 → readOf (recordBytes kind body ++ rest) ≡ kindRead kind body
 unfolding readOf recordRead
 record-is-read kind body rest k h =
     let n : 2 + length body - 2 ≡ length body = omega arith in
@@ -45,14 +45,14 @@ module _ (p : ℕ) (hp : p < 256) (rest : List ℕ) where
     length-access = omega arith
 
     fetch-is-read : text ≡ [] → readOf (recordBytes 1 (accessBody p address count) ++ rest) ≡ ARequest p (Access Fetch address count) 11
-    unfolding bodyOf fetchIn accessBody littleBytes
+    unfolding kindRead fetchIn accessBody littleBytes
     fetch-is-read e =
         let (a, b, c) = rw e at access-fields in
         record-is-read 1 (accessBody p address count) rest (omega arith) (omega arith) ∙ rw (a, b, c)
 
     store-is-read : count ≤ 503 → length text ≡ count
         → readOf (recordBytes 2 (accessBody p address count ++ text) ++ rest) ≡ ARequest p (Access Store address count) (11 + count)
-    unfolding bodyOf
+    unfolding kindRead
     store-is-read most e =
         let (a, b, c) = access-fields in
         let body : List ℕ = accessBody p address count ++ text in
@@ -64,7 +64,7 @@ module _ (p : ℕ) (hp : p < 256) (rest : List ℕ) where
   module _ (i : ℕ) (hi : i < 256) where
     key-is-read : (r1 r2 : ℕ) → Word r1 → Word r2 → (r : Request) → getElem? (keyRequests r1 r2) i ≡ some r
         → readOf (recordBytes 3 (keyBody p i r1 r2) ++ rest) ≡ ARequest p r 14
-    unfolding bodyOf keyBody littleBytes
+    unfolding kindRead keyBody littleBytes
     key-is-read r1 r2 h1 h2 r e =
         let b : List ℕ = keyBody p i r1 r2 in
         let processor : little 1 b 0 ≡ p = little-written 1 p (littleBytes 1 i ++ littleBytes 4 r1 ++ littleBytes 4 r2) hp in
@@ -78,7 +78,7 @@ module _ (p : ℕ) (hp : p < 256) (rest : List ℕ) where
 
     prefix-is-read : (word : ℕ) → Word word → (r : Request) → getElem? (prefixRequests word) i ≡ some r
         → readOf (recordBytes 4 (prefixBody p i word) ++ rest) ≡ ARequest p r 10
-    unfolding bodyOf prefixBody littleBytes
+    unfolding kindRead prefixBody littleBytes
     prefix-is-read word hw r e =
         let b : List ℕ = prefixBody p i word in
         let processor : little 1 b 0 ≡ p = little-written 1 p (littleBytes 1 i ++ littleBytes 4 word) hp in
@@ -134,5 +134,5 @@ unfolding remarkBytes
 length-remarkBytes text = length-recordBytes 255 text
 
 pub remark-is-read : (text rest : List ℕ) → length text ≤ 256 → readOf (remarkBytes text ++ rest) ≡ Remark (4 + length text)
-unfolding remarkBytes bodyOf
+unfolding remarkBytes kindRead
 remark-is-read text rest h = record-is-read 255 text rest (omega arith) (omega arith) ∙ sym (remarked text h)

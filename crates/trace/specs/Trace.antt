@@ -56,20 +56,20 @@ prefixIn body = cond (eqb (length body) 6) (oneOf body (getElem? (prefixRequests
 unfoldable pub remarkIn : List ℕ → Read
 remarkIn body = cond (leb (length body) 256) (Remark (4 + length body)) Bad
 
--- any other kind is bad
-unfoldable pub bodyOf : ℕ → List ℕ → Read
-bodyOf kind body =
+-- what a record of a kind with a body is read as: any other kind is bad
+unfoldable pub kindRead : ℕ → List ℕ → Read
+kindRead kind body =
     cond (eqb kind 1) (fetchIn body)
     (cond (eqb kind 2) (storeIn body)
     (cond (eqb kind 3) (keyIn body)
     (cond (eqb kind 4) (prefixIn body)
     (cond (eqb kind 255) (remarkIn body) Bad))))
 
--- the house record in front. A length over 512 is bad, and so is a record cut short
+-- the house record in front. A length over 512 is bad, and so are a length of 0 or 1 and a record cut short
 unfoldable pub recordRead : Found → List ℕ → Read
 recordRead AtEnd s = End
 recordRead Short s = Bad
-recordRead (Whole stated kind) s = cond (leb stated 512) (bodyOf kind (take (stated - 2) (drop 4 s))) Bad
+recordRead (Whole stated kind) s = cond (leb stated 512) (kindRead kind (take (stated - 2) (drop 4 s))) Bad
 
 unfoldable pub readOf : List ℕ → Read
 readOf s = recordRead (found s 0) s

@@ -2,7 +2,7 @@
 // house record of kind 1 fetch, 2 store, 3 key instruction, 4 prefix instruction or 255 remark.
 use house_record::Found;
 use house_record::fields::byte;
-use house_record::fields::half;
+use house_record::fields::halfword;
 use house_record::fields::word;
 use house_record::find;
 use machine::AccessKind;
@@ -13,11 +13,11 @@ ghost use Prim.Native.Nat.{_+_, _≤_};
 ghost use mathlib.Core.Path.{_≡_};
 ghost use lib.ListN.{length};
 ghost use Rattle.house_record.specs.declared.Found.the-variants.{Whole};
-ghost use Rattle.trace.specs.Trace.{requestIn, fetchIn, storeIn, keyIn, prefixIn, remarkIn, bodyOf, recordRead, readOf};
+ghost use Rattle.trace.specs.Trace.{requestIn, fetchIn, storeIn, keyIn, prefixIn, remarkIn, kindRead, recordRead, readOf};
 
 // What stands in front. A size is that of the whole record.
 pub enum Read {
-    // The data of a store are the bytes of the record from place 11 on.
+    // The data of a store are the bytes of the record from offset 11 on.
     Request {
         processor_number: usize,
         request: Request,
@@ -30,10 +30,10 @@ pub enum Read {
     End,
 }
 
-// The longest record that is not bad: its length counts 512 bytes.
+// The greatest length that is not bad. With it a record has 514 bytes.
 const LENGTH_MAXIMUM: usize = 512;
 
-// The longest remark.
+// The most bytes of a remark.
 const REMARK_MAXIMUM: usize = 256;
 
 // A request whose record has this body.
@@ -61,7 +61,7 @@ fn fetch_in(body: &[u8]) -> Read
     let request = Request::Access {
         kind: AccessKind::Fetch,
         address: word(body, 1),
-        count: half(body, 5),
+        count: halfword(body, 5),
     };
     request_in(body, request)
 }
@@ -71,7 +71,7 @@ fn store_in(body: &[u8]) -> Read
     requires { ⌜ length (now body) ≤ 512 ⌝ }
     ensures { λ r. ⌜ r ≡ storeIn (now (body .entry)) ⌝ }
 {
-    let count = half(body, 5);
+    let count = halfword(body, 5);
     if body.len() != 7 + count as usize {
         return Read::Bad;
     }
@@ -135,9 +135,9 @@ fn remark_in(body: &[u8]) -> Read
 }
 
 // A record by its kind and body.
-fn body_of(kind: u32, body: &[u8]) -> Read
+fn read_kind(kind: u32, body: &[u8]) -> Read
     requires { ⌜ length (now body) ≤ 512 ⌝ }
-    ensures { λ r. ⌜ r ≡ bodyOf kind (now (body .entry)) ⌝ }
+    ensures { λ r. ⌜ r ≡ kindRead kind (now (body .entry)) ⌝ }
 {
     match kind {
         1 => fetch_in(body),
@@ -158,7 +158,7 @@ fn whole(bytes: &[u8], stated: usize, kind: u32) -> Read
         return Read::Bad;
     }
     let end = 2 + stated;
-    body_of(kind, &bytes[4..end])
+    read_kind(kind, &bytes[4..end])
 }
 
 // The record in front of the bytes.

@@ -11,8 +11,8 @@ returns c = other-fetch _ (c .if1 .taken)
 word-requires : tie.Need-word-requires
 word-requires c κs = search needs
 
-half-requires : tie.Need-half-requires
-half-requires c κs = search needs
+halfword-requires : tie.Need-halfword-requires
+halfword-requires c κs = search needs
 
 request-in-requires : tie.Need-request-in-requires
 request-in-requires c κs = search needs
@@ -21,8 +21,8 @@ returns-2 : tie.Need-returns-2
 returns-2 c =
     let count = c .before in
     let address = count .before in
-    c .request-in .ensures ∙ fetched _ _ _ (address .word .ensures) (count .half .ensures .0) (address .before .if1 .left)
+    c .request-in .ensures ∙ fetched _ _ _ (address .word .ensures) (count .halfword .ensures .0) (address .before .if1 .left)
 
 pub fetch-in-spec : {M : Type 1} → statement M
 fetch-in-spec =
-    tie.close (tie.spec returns word-requires half-requires request-in-requires returns-2)
+    tie.close (tie.spec returns word-requires halfword-requires request-in-requires returns-2)

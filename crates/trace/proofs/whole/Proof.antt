@@ -10,20 +10,20 @@ returns c = too-long _ _ _ (c .if1 .taken)
 add-end : tie.Need-add-end
 add-end c = search needs
 
-sub-body-of : tie.Need-sub-body-of
-sub-body-of c = search needs
+sub-read-kind : tie.Need-sub-read-kind
+sub-read-kind c = search needs
 
-part-body-of-start : tie.Need-part-body-of-start
-part-body-of-start c = search needs
+part-read-kind-start : tie.Need-part-read-kind-start
+part-read-kind-start c = search needs
 
-part-body-of-end : tie.Need-part-body-of-end
-part-body-of-end c = search needs
+part-read-kind-end : tie.Need-part-read-kind-end
+part-read-kind-end c = search needs
 
-body-of-requires : tie.Need-body-of-requires
-body-of-requires c κs = search needs
+read-kind-requires : tie.Need-read-kind-requires
+read-kind-requires c κs = search needs
 
 returns-2 : tie.Need-returns-2
-returns-2 c = read-as _ _ _ (c .before .before .if1 .left) _ (c .body-of .ensures)
+returns-2 c = read-as _ _ _ (c .before .before .if1 .left) _ (c .read-kind .ensures)
 
 pub whole-spec : {M : Type 1} → statement M
 whole-spec =
@@ -31,8 +31,8 @@ whole-spec =
     (tie.spec
     returns
     add-end
-    sub-body-of
-    part-body-of-start
-    part-body-of-end
-    body-of-requires
+    sub-read-kind
+    part-read-kind-start
+    part-read-kind-end
+    read-kind-requires
     returns-2)

@@ -2,8 +2,8 @@
 use mathlib.Core.Path.{_∙_}
 use Rattle.trace.proofs.Bodies.{kind-1, kind-2, kind-3, kind-4, kind-255, other-kind}
 use borrow.Author.Needs.{needs}
-use Rattle.trace.proofs.body_of.Statement.{statement}
-use Rattle.trace.proofs.body_of.Tie as tie
+use Rattle.trace.proofs.read_kind.Statement.{statement}
+use Rattle.trace.proofs.read_kind.Tie as tie
 
 fetch-in-requires : tie.Need-fetch-in-requires
 fetch-in-requires c κs = search needs
@@ -38,8 +38,8 @@ returns-5 c = c .remark-in .ensures ∙ kind-255 _ _ (c .before .match .keys5)
 returns-6 : tie.Need-returns-6
 returns-6 c = other-kind _ _ (c .match .rest .0 .0 .0 .0 .1) (c .match .rest .0 .0 .0 .1) (c .match .rest .0 .0 .1) (c .match .rest .0 .1) (c .match .rest .1)
 
-pub body-of-spec : {M : Type 1} → statement M
-body-of-spec =
+pub read-kind-spec : {M : Type 1} → statement M
+read-kind-spec =
     tie.close
     (tie.spec
     fetch-in-requires

@@ -7,6 +7,7 @@
 //! | [`plain`] | ordinary hand-written Rust, for comparison of speed |
 //!
 //! All have a function with the same parameters for any request, and each is a [`Unit`].
+//! [`player`] is document 02's player of recordings, on the reference.
 
 #![deny(missing_docs)]
 #![deny(unsafe_op_in_unsafe_fn)]
@@ -14,6 +15,7 @@
 
 pub mod numbers;
 pub mod plain;
+pub mod player;
 pub mod reference;
 pub mod units;
 

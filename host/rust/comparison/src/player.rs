@@ -1,7 +1,8 @@
 //! The player of document 02, W1, written down record by record.
 //!
-//! It has the whole recording before it, and the machine is the [`reference`](mod@crate::reference).
-//! It is written to be read beside the document, not to be fast.
+//! It has the whole recording before it, and its requests are those of the
+//! [`reference`](mod@crate::reference). It is written to be read beside the document, not to be
+//! fast.
 
 use storage_unit::{Answer, Machine, Processor, Request, Settings};
 

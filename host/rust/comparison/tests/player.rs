@@ -1,50 +1,22 @@
-//! The player of the reference: written cases for each sentence of document 02's W1.
+//! Written cases for each sentence of document 02's W1: the player of the reference, and the proved
+//! one beside it.
 
-use storage_unit_comparison::player::{Fault, Run, play, start};
+mod support;
 
-/// A record: the length, the kind, and what stands behind it.
-fn record(kind: u16, body: &[u8]) -> Vec<u8> {
-    let length = 2 + body.len() as u16;
-    [&length.to_le_bytes(), &kind.to_le_bytes(), body].concat()
-}
+use storage_unit::Machine;
+use storage_unit_comparison::player::{self, Fault, Run, start};
 
-fn fetch(processor: u8, address: u32, length: u16) -> Vec<u8> {
-    let body = [
-        &[processor][..],
-        &address.to_le_bytes(),
-        &length.to_le_bytes(),
-    ];
-    record(1, &body.concat())
-}
+use support::recordings::*;
 
-fn store(processor: u8, address: u32, length: u16, data: &[u8]) -> Vec<u8> {
-    let body = [
-        &[processor][..],
-        &address.to_le_bytes(),
-        &length.to_le_bytes(),
-        data,
-    ];
-    record(2, &body.concat())
-}
-
-fn key(processor: u8, instruction: u8, r1: u32, r2: u32) -> Vec<u8> {
-    let body = [
-        &[processor, instruction][..],
-        &r1.to_le_bytes(),
-        &r2.to_le_bytes(),
-    ];
-    record(3, &body.concat())
-}
-
-fn prefix(processor: u8, operation: u8, word: u32) -> Vec<u8> {
-    record(
-        4,
-        &[&[processor, operation][..], &word.to_le_bytes()].concat(),
-    )
-}
-
-fn remark(length: usize) -> Vec<u8> {
-    record(255, &vec![0x01; length])
+/// Plays the recording by the reference. The proved player writes the same, and leaves the same.
+fn play(machine: &mut Machine, recording: &[u8]) -> Run {
+    let (mut proved, mut lines) = (machine.clone(), Vec::new());
+    let counted = proved.play_all(recording, &mut lines).expect("a vector");
+    let run = player::play(machine, recording);
+    assert_eq!(String::from_utf8_lossy(&lines), run.lines);
+    assert_eq!(counted.requests, run.requests);
+    assert!(proved == *machine, "{recording:02x?}");
+    run
 }
 
 /// Plays these records, one behind the other, from the start.

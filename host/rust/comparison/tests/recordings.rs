@@ -11,6 +11,7 @@ use std::io::{self, Read};
 use storage_unit::boundary::*;
 use storage_unit::{Machine, Processor, Settings};
 use storage_unit_comparison::numbers::decode_settings;
+use storage_unit_comparison::plain_player;
 use storage_unit_comparison::player::{self, Run};
 
 use support::recordings::*;
@@ -442,6 +443,24 @@ fn recordings_that_are_read() {
     }
 }
 
+/// The ordinary player, from the start.
+#[test]
+fn plain_player_against_reference() {
+    let random = &mut Random::new(1_975);
+    for seed in 0..40_000 {
+        let mut machine = player::start();
+        let (recording, _) = random_recording(random, &machine);
+        let parts = Parts {
+            rest: &recording,
+            random: Random::new(seed),
+        };
+        let mut lines = Vec::new();
+        plain_player::play(parts, &mut lines).expect("no error");
+        let run = player::play(&mut machine, &recording);
+        assert_eq!(str::from_utf8(&lines), Ok(run.lines.as_str()));
+    }
+}
+
 /// A recording that is longer than any buffer, so that its records lie across them.
 #[test]
 fn long_recording() {
@@ -467,6 +486,9 @@ fn long_recording() {
     assert!(lines == run.lines.as_bytes());
     assert_eq!(counted.requests, run.requests);
     assert!(machine == same);
+    let mut plain_lines = Vec::new();
+    plain_player::play(&recording[..], &mut plain_lines).expect("no error");
+    assert!(plain_lines == lines);
     assert!(run.requests > 20_000 && run.fault.is_some());
 }
 

@@ -50,17 +50,21 @@ fn put(recording: &mut Vec<u8>, kind: u16, parts: &[&[u8]]) {
     }
 }
 
+/// A processor and an address. Three in 200 are refused: there is no such processor, the address is
+/// outside storage, or it is over 24 bits.
+fn processor_and_address(random: &mut Random) -> (u8, u32) {
+    let (processor, address) = (random.below(2) as u8, random.below(65_536 - 16));
+    match random.below(200) {
+        0 => (2, address),
+        1 => (processor, 65_536 + address),
+        2 => (processor, 1 << 24 | address),
+        _ => (processor, address),
+    }
+}
+
 /// Puts a random record behind the others.
 fn put_record(recording: &mut Vec<u8>, random: &mut Random) {
-    let mut processor = random.below(2) as u8;
-    let mut address = random.below(65_536 - 16);
-    match random.below(200) {
-        // Refusals: no such processor, outside storage, no address.
-        0 => processor = 2,
-        1 => address = 65_520 + random.below(65_536),
-        2 => address |= 1 << 24,
-        _ => {}
-    }
+    let (processor, address) = processor_and_address(random);
     let word = random.below(u32::MAX).to_le_bytes();
     match random.below(100) {
         0..40 => {

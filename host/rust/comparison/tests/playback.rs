@@ -35,8 +35,8 @@ static PROGRAM: LazyLock<PathBuf> = LazyLock::new(|| {
     program
 });
 
-/// What the program writes for a recording that comes in these pieces, the last as long as it takes.
-/// It writes nothing else, and ends with status 0.
+/// What the program writes for a recording that comes in pieces of these lengths. It writes nothing
+/// else, and ends with status 0.
 fn played(recording: &[u8], pieces: impl Iterator<Item = usize>) -> String {
     let mut program = Command::new(&*PROGRAM)
         .stdin(Stdio::piped())

@@ -7,6 +7,7 @@
 mod support;
 
 use std::io::{self, Read};
+use std::thread;
 
 use storage_unit::boundary::*;
 use storage_unit::{Machine, Processor, Settings};
@@ -19,6 +20,12 @@ use support::*;
 
 const DEFAULT_RECORDINGS: u64 = 1_000_000;
 const DEFAULT_SEED: u64 = 1_970;
+
+/// How many recordings are played on one machine.
+const PER_MACHINE: u64 = 64;
+
+/// In as many recordings, every case comes up.
+const ENOUGH: u64 = 100_000;
 
 /// Cases that must come up besides those of the recordings: fed whole, in pieces and one byte at a
 /// time; each result; the numbers of answers that need another machine than that of the start.
@@ -324,31 +331,48 @@ fn compare(
     assert!(recording == kept, "the recording");
 }
 
+/// Says on a failure how it is repeated.
+struct Repeat {
+    seed: u64,
+}
+
+impl Drop for Repeat {
+    fn drop(&mut self) {
+        if thread::panicking() {
+            let seed = self.seed;
+            eprintln!(
+                "repeat it with STORAGE_UNIT_SEED={seed} STORAGE_UNIT_RECORDINGS={PER_MACHINE}"
+            );
+        }
+    }
+}
+
+/// Random recordings one after the other on one machine.
+fn run_machine(seed: u64, output: &mut Vec<u8>, cases: &mut Cases) {
+    let repeat = Repeat { seed };
+    let random = &mut Random::new(repeat.seed);
+    let mut pair = Pair::new(random);
+    for ordinal in 1..=PER_MACHINE {
+        let (recording, damage) = random_recording(random, &pair.machine);
+        compare(&mut pair, &recording, damage, random, output, cases);
+        if ordinal % 4 == 0 {
+            pair.change_records(random);
+        }
+    }
+}
+
 #[test]
 fn random_recordings() {
     let recordings = from_environment("STORAGE_UNIT_RECORDINGS", DEFAULT_RECORDINGS);
     let first_seed = from_environment("STORAGE_UNIT_SEED", DEFAULT_SEED);
-    let random = &mut Random::new(first_seed);
     let (mut cases, mut output) = (Cases::default(), Vec::new());
-    let mut pair = Pair::new(random);
-    for ordinal in 0..recordings {
-        if ordinal % 64 == 0 {
-            pair = Pair::new(random);
-        } else if ordinal % 4 == 0 {
-            pair.change_records(random);
-        }
-        let (recording, damage) = random_recording(random, &pair.machine);
-        compare(
-            &mut pair,
-            &recording,
-            damage,
-            random,
-            &mut output,
-            &mut cases,
-        );
+    for machine in 0..recordings.div_ceil(PER_MACHINE) {
+        run_machine(first_seed + machine, &mut output, &mut cases);
     }
-    println!("{recordings} recordings, seed {first_seed}");
-    println!("{}{}", cases.check(&NEEDED), cases.check(&NEEDED_HERE));
+    println!("{recordings} recordings, first seed {first_seed}");
+    if recordings >= ENOUGH {
+        println!("{}{}", cases.check(&NEEDED), cases.check(&NEEDED_HERE));
+    }
 }
 
 /// One record of each kind behind a good one: cut at every byte, and with each number in it one

@@ -318,7 +318,7 @@ uint64_t storage_unit_store(uint32_t settings,
  * STORAGE_UNIT_PLAY_ENDED    The run is at its end. Behind a bad record nothing is played; its
  *                            line is the last.
  * STORAGE_UNIT_PLAY_ROOM     Take the lines from the output and call again with the unread rest of
- *                            the piece. Nothing is lost. The output has at least 64 bytes then.
+ *                            the piece, and with at least 64 bytes of output. Nothing is lost.
  * STORAGE_UNIT_PLAY_LIMIT    The requests or the records can be counted no further.
  * STORAGE_UNIT_PLAY_REFUSED  Nothing has changed, not even the player.
  *

@@ -485,6 +485,29 @@ fn plain_player_against_reference() {
     }
 }
 
+/// The text of a recording: it ends at the record that the player finds bad, and what stands before
+/// that comes back from it byte by byte.
+#[test]
+fn texts_of_recordings() {
+    let random = &mut Random::new(1_976);
+    let mut bad_ones = 0;
+    for _ in 0..100_000 {
+        let mut machine = Machine::new(Settings::default(), 4096).expect("a length that is right");
+        let (recorded, _) = random_recording(random, &machine);
+        let run = player::play(&mut machine, &recorded);
+        let (text, bad) = recording::decode(&recorded);
+        let ordinal = run.fault.map(|_| run.records);
+        assert_eq!(bad.map(|bad| bad.ordinal), ordinal, "{recorded:02x?}");
+        let written = recording::encode(text.as_bytes()).expect("the text of records");
+        match bad {
+            None => assert_eq!(written, recorded),
+            Some(_) => assert!(recorded.starts_with(&written)),
+        }
+        bad_ones += u64::from(bad.is_some());
+    }
+    assert!((10_000..90_000).contains(&bad_ones), "{bad_ones}");
+}
+
 /// A recording that is longer than any buffer, so that its records lie across them.
 #[test]
 fn long_recording() {

@@ -3,7 +3,8 @@
 use std::io::{self, Read};
 
 use recording::{
-    BadRecord, Fault, Instruction, ReadError, Record, TooLong, decode, encode, records, show,
+    BadRecord, Fault, Instruction, ReadError, Record, TooLong, decode, encode, parse_line, records,
+    show,
 };
 
 /// Random numbers by SplitMix64.
@@ -169,6 +170,35 @@ fn damaged_recordings() {
         }
     }
     assert!(bad_ones > 10_000, "{bad_ones}");
+}
+
+/// Damaged text is refused, or is a record that comes back from its own line.
+#[test]
+fn damaged_text() {
+    let random = &mut Random(1_933);
+    let mut refused = 0;
+    for _ in 0..100_000 {
+        let mut line = random_record(random).to_string().into_bytes();
+        for _ in 0..=random.below(2) {
+            let place = random.below(line.len() as u32 + 1) as usize;
+            let byte = b" #\"\\x0=-\t\r\xC3a9_"[random.below(14) as usize];
+            match line.get_mut(place) {
+                Some(old) if random.below(2) == 0 => *old = byte,
+                _ => line.insert(place, byte),
+            }
+        }
+        match parse_line(&line) {
+            Ok(record) => {
+                let text = record.as_ref().map_or(String::new(), Record::to_string);
+                assert_eq!(parse_line(text.as_bytes()), Ok(record), "{text}");
+            }
+            Err(error) => {
+                refused += 1;
+                assert!(error.message.starts_with("expected "), "{error}");
+            }
+        }
+    }
+    assert!((10_000..90_000).contains(&refused), "{refused}");
 }
 
 /// Text that no program has written: other numbers, blanks, cases and forms.

@@ -185,13 +185,13 @@ uint32_t storage_unit_version(void);
 #define STORAGE_UNIT_PLAY_OUTPUT_MINIMUM 64u  /* bytes of output that any one line has room in */
 
 /*
- * How far a run has come: the 48 bytes of a player as numbers, for x86-64. All zero at the start of
- * a recording, but for records that the program sets.
+ * A player: the records of both processors, and how far the run has come. The numbers are zero at
+ * the start of a recording. On x86-64 the struct is the 48 bytes that storage_unit_play takes.
  */
 struct storage_unit_player {
-    uint8_t records[STORAGE_UNIT_RECORDS_LENGTH]; /* of both processors, as everywhere */
+    uint8_t records[STORAGE_UNIT_RECORDS_LENGTH];
     uint64_t requests;     /* requests so far */
-    uint64_t records_read; /* records of the recording so far */
+    uint64_t records_read; /* records of the recording so far, remarks included */
     uint64_t read;         /* bytes of the piece that the call has read */
     uint64_t written;      /* bytes of text that the call has written */
 };
@@ -223,8 +223,9 @@ struct storage_unit_player {
  * never those behind them; the piece never. Refused, it writes nothing at all.
  *
  * Bytes behind a pointer to const are only read, and may be in read-only memory: the storage of
- * storage_unit_fetch, the bytes of storage_unit_store, the piece of storage_unit_play. Other memory that is lent must be
- * writable: an instruction puts a condition code into its record also where it stays the same.
+ * storage_unit_fetch, the bytes of storage_unit_store, the piece of storage_unit_play. Other memory
+ * that is lent must be writable: an instruction puts a condition code into its record also where it
+ * stays the same.
  */
 
 /*

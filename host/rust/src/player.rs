@@ -193,7 +193,8 @@ impl Input {
                 result => break result?,
             }
         };
-        self.end += count;
+        // A reader that counts wrongly has read no more than there is room for.
+        self.end = self.bytes.len().min(self.end + count);
         self.last = count == 0;
         Ok(())
     }

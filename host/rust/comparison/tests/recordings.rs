@@ -10,7 +10,7 @@ use std::io::{self, Read};
 use std::thread;
 
 use storage_unit::boundary::*;
-use storage_unit::{Machine, Processor, Settings};
+use storage_unit::{Machine, PlayStatus, Player, Processor, Settings};
 use storage_unit_comparison::numbers::decode_settings;
 use storage_unit_comparison::plain_player;
 use storage_unit_comparison::player::{self, Run};
@@ -618,6 +618,31 @@ fn greatest_ordinals() {
     let mut pair = counted(7, u64::MAX - 1);
     assert_eq!(pair.bytes.play(&[1], 1, &mut output), PLAY_ENDED);
     assert_eq!(&output[..32], b"bad record 18446744073709551615\n");
+}
+
+/// Each status of a machine that plays one piece.
+#[test]
+fn statuses_of_a_machine() {
+    let recording = [fetch(0, 0, 1), remark(2), fetch(0, 65_535, 2)].concat();
+    let mut machine = player::start();
+    let mut player = Player::default();
+    let mut output = [KEPT; 256];
+    let mut play = |player: &mut Player, piece: &[u8], last, room| {
+        let played = machine.play(player, piece, last, &mut output[..room]);
+        let text = String::from_utf8_lossy(&output[..played.written]).into_owned();
+        (played.read, text, played.status)
+    };
+    let first = play(&mut player, &recording[..12], false, 256);
+    assert_eq!(first, (11, "1 0 0\n".into(), PlayStatus::More));
+    let second = play(&mut player, &recording[11..], true, 256);
+    assert_eq!(second, (17, "2 5 1\n".into(), PlayStatus::Ended));
+    assert_eq!((player.requests, player.records), (2, 3));
+    // Behind a line of six bytes, 63 are left.
+    let third = play(&mut player, &fetch(0, 0, 1).repeat(2), true, 69);
+    assert_eq!(third, (11, "3 0 0\n".into(), PlayStatus::Room));
+    player.requests = u64::MAX;
+    let fourth = play(&mut player, &recording, true, 256);
+    assert_eq!(fourth, (0, String::new(), PlayStatus::Limit));
 }
 
 /// Without output nothing is played and nothing is lost.

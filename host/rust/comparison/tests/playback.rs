@@ -12,6 +12,7 @@ use std::path::PathBuf;
 use std::process::{Command, Stdio};
 use std::sync::LazyLock;
 use std::thread;
+use std::time::Duration;
 
 use storage_unit_comparison::player;
 
@@ -35,9 +36,18 @@ static PROGRAM: LazyLock<PathBuf> = LazyLock::new(|| {
     program
 });
 
-/// What the program writes for a recording that comes in pieces of these lengths. It writes nothing
-/// else, and ends with status 0.
+/// What the program writes for a recording that comes in pieces of these lengths.
 fn played(recording: &[u8], pieces: impl Iterator<Item = usize>) -> String {
+    played_with_pauses(recording, pieces, Duration::ZERO)
+}
+
+/// The same with a pause before each piece, so that the program reads one after the other and not
+/// all that has come meanwhile. It writes nothing else, and ends with status 0.
+fn played_with_pauses(
+    recording: &[u8],
+    pieces: impl Iterator<Item = usize>,
+    pause: Duration,
+) -> String {
     let mut program = Command::new(&*PROGRAM)
         .stdin(Stdio::piped())
         .stdout(Stdio::piped())
@@ -50,6 +60,9 @@ fn played(recording: &[u8], pieces: impl Iterator<Item = usize>) -> String {
         let mut rest = recording;
         for piece in pieces {
             let (next, behind) = rest.split_at(piece.min(rest.len()));
+            if !pause.is_zero() {
+                thread::sleep(pause);
+            }
             // A program that has met a bad record reads no further.
             if pipe.write_all(next).and_then(|()| pipe.flush()).is_err() || behind.is_empty() {
                 break;
@@ -133,6 +146,36 @@ fn random_recordings() {
         ("one under in record", &[0, 1]),
         ("one over in record", &[0, 1]),
     ]);
+}
+
+/// Recordings of which the program reads byte after byte. Most of the time it waits, and so several
+/// are played at the same time.
+#[test]
+fn byte_after_byte() {
+    let random = &mut Random::new(1_984);
+    let records = [
+        fetch(0, 0x100, 16),
+        store(1, 0x200, 3, b"ABC"),
+        key(0, 5, 1, 0x1000),
+        prefix(1, 0, 0x1000),
+        remark(5),
+    ];
+    let mut recordings = vec![Vec::new(), records.concat()];
+    for _ in 0..94 {
+        let mut recording = random_recording(random, &player::start()).0;
+        recording.truncate(200);
+        recordings.push(recording);
+    }
+    for some in recordings.chunks(32) {
+        thread::scope(|scope| {
+            for recording in some {
+                scope.spawn(move || {
+                    let lines = played_with_pauses(recording, one_byte(), Duration::from_millis(1));
+                    assert_eq!(lines, expected(recording), "{recording:02x?}");
+                });
+            }
+        });
+    }
 }
 
 /// One record of each kind behind a good one, cut at every byte.

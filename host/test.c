@@ -4,8 +4,8 @@
 #include <stdio.h>
 #include <string.h>
 
-#if STORAGE_UNIT_VERSION < 200
-#error "the preprocessor does not read STORAGE_UNIT_VERSION as 200 or more"
+#if STORAGE_UNIT_VERSION < 300
+#error "the preprocessor does not read STORAGE_UNIT_VERSION as 300 or more"
 #endif
 
 #define STORAGE_LENGTH 8192u
@@ -379,6 +379,148 @@ static void machine_functions(void)
     CHECK(storage_unit_word(storage_unit_store_prefix(&machine, 0)) == 0);
 }
 
+/* ---- Playing a recording. */
+
+#define OUTPUT_LENGTH 200u
+
+/* A fetch, a remark, a store outside storage, SET PREFIX of processor 1, a fetch of processor 2. */
+static const uint8_t recording[] = {
+    9, 0, 1, 0, 0, 0, 0, 0, 0, 1, 0,
+    4, 0, 255, 0, 'A', 'B',
+    11, 0, 2, 0, 1, 0xFF, 0x1F, 0, 0, 2, 0, 0xC1, 0xC2,
+    8, 0, 4, 0, 1, 0, 0, 0x10, 0, 0,
+    9, 0, 1, 0, 2, 0, 0, 0, 0, 1, 0,
+};
+static const char recording_lines[] = "1 0 0\n2 5 1\n3 0 0\n4 65 0\n";
+
+static uint8_t output[OUTPUT_LENGTH];
+
+static struct storage_unit_player new_player(void)
+{
+    struct storage_unit_player player;
+
+    memset(&player, 0, sizeof player);
+    memset(output, 0xEE, sizeof output);
+    return player;
+}
+
+/* The last call has written this text, and has kept the rest of the output. */
+static int has_written(const struct storage_unit_player *player, const char *text)
+{
+    size_t i = strlen(text);
+
+    if (player->written != i || memcmp(output, text, i) != 0) {
+        return 0;
+    }
+    while (i < sizeof output && output[i] == 0xEE) {
+        i++;
+    }
+    return i == sizeof output;
+}
+
+/* Recordings that are played by one call. */
+static void play_whole(void)
+{
+    struct storage_unit_machine machine = machine_of_tests();
+    struct storage_unit_player player = new_player();
+
+    CHECK(sizeof player == STORAGE_UNIT_PLAYER_LENGTH);
+    start();
+    CHECK(storage_unit_play_piece(&machine, &player, recording, sizeof recording, 1, output,
+                                  sizeof output) == STORAGE_UNIT_PLAY_ENDED);
+    CHECK(has_written(&player, recording_lines));
+    CHECK(player.read == sizeof recording && player.requests == 4 && player.records_read == 5);
+    CHECK(keys[0] == STORAGE_UNIT_KEY_REFERENCE && keys[3] == 0);
+    CHECK(storage_unit_prefix(storage_unit_record(records, 1)) == 0x1000);
+    CHECK(memcmp(player.records, records, sizeof records) == 0);
+
+    player = new_player();
+    CHECK(storage_unit_play_piece(&machine, &player, NULL, 0, 1, output, sizeof output)
+          == STORAGE_UNIT_PLAY_ENDED);
+    CHECK(has_written(&player, ""));
+    player = new_player();
+    CHECK(storage_unit_play_piece(&machine, &player, recording, 12, 1, output, sizeof output)
+          == STORAGE_UNIT_PLAY_ENDED);
+    CHECK(has_written(&player, "1 0 0\nbad record 2\n"));
+}
+
+/* One byte more with each call, and the same with an output that has room for one line. */
+static void play_pieces(void)
+{
+    struct storage_unit_machine machine = machine_of_tests();
+    struct storage_unit_player player = new_player();
+    char lines[sizeof output] = "";
+    size_t begin = 0, end = 0;
+    uint32_t result;
+
+    start();
+    machine.records = player.records;
+    do {
+        end += end < sizeof recording ? 1 : 0;
+        memset(output, 0xEE, sizeof output);
+        result = storage_unit_play_piece(&machine, &player, recording + begin, end - begin,
+                                         end == sizeof recording, output, sizeof output);
+        strncat(lines, (const char *)output, (size_t)player.written);
+        begin += (size_t)player.read;
+    } while (result == STORAGE_UNIT_PLAY_MORE && begin <= end);
+    CHECK(result == STORAGE_UNIT_PLAY_ENDED && begin == sizeof recording);
+    CHECK(strcmp(lines, recording_lines) == 0);
+    CHECK(storage_unit_prefix(storage_unit_record(player.records, 1)) == 0x1000);
+
+    player = new_player();
+    start();
+    begin = 0;
+    lines[0] = '\0';
+    do {
+        result = storage_unit_play_piece(&machine, &player, recording + begin,
+                                         sizeof recording - begin, 1, output,
+                                         STORAGE_UNIT_PLAY_OUTPUT_MINIMUM);
+        strncat(lines, (const char *)output, (size_t)player.written);
+        begin += (size_t)player.read;
+    } while (result == STORAGE_UNIT_PLAY_ROOM && begin <= sizeof recording);
+    CHECK(result == STORAGE_UNIT_PLAY_ENDED && strcmp(lines, recording_lines) == 0);
+}
+
+/* What is refused changes nothing. At the greatest ordinal nothing is played. */
+static void play_refused(void)
+{
+    struct storage_unit_machine machine = machine_of_tests();
+    struct storage_unit_player player, before;
+    size_t length;
+
+    start();
+    memset(&before, 0x77, sizeof before);
+    player = before;
+    memset(output, 0xEE, sizeof output);
+    for (length = 0; length < 60; length++) {
+        uint32_t settings = length == sizeof player ? 4u : STORAGE_UNIT_EXTENSIONS;
+        uint8_t bytes[60];
+
+        memset(bytes, 0x77, sizeof bytes);
+        CHECK(storage_unit_play(settings, storage, sizeof storage, keys, sizeof keys, bytes, length,
+                                recording, sizeof recording, 1, output, sizeof output)
+              == STORAGE_UNIT_PLAY_REFUSED);
+        CHECK(memcmp(bytes, &before, sizeof before) == 0);
+    }
+    machine.settings = 4;
+    CHECK(storage_unit_play_piece(&machine, &player, recording, sizeof recording, 1, output,
+                                  sizeof output) == STORAGE_UNIT_PLAY_REFUSED);
+    machine = machine_of_tests();
+    machine.records_length = 8;
+    CHECK(storage_unit_play_piece(&machine, &player, recording, sizeof recording, 1, output,
+                                  sizeof output) == STORAGE_UNIT_PLAY_REFUSED);
+    CHECK(memcmp(&player, &before, sizeof before) == 0);
+    CHECK(keys[0] == 0 && output[0] == 0xEE);
+
+    machine = machine_of_tests();
+    player = new_player();
+    player.requests = UINT64_MAX - 1;
+    CHECK(storage_unit_play_piece(&machine, &player, recording, sizeof recording, 1, output,
+                                  sizeof output) == STORAGE_UNIT_PLAY_LIMIT);
+    CHECK(has_written(&player, "18446744073709551615 0 0\n"));
+    CHECK(player.requests == UINT64_MAX);
+}
+
 /* ---- Random requests, by storage_unit_request and by the functions of a machine. */
 
 #define RANDOM_LENGTH   12288u
@@ -711,6 +853,9 @@ int main(void)
     short_way();
     constant_bytes();
     machine_functions();
+    play_whole();
+    play_pieces();
+    play_refused();
     random_requests();
     return failures == 0 ? 0 : 1;
 }

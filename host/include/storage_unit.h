@@ -5,13 +5,15 @@
  * to each call of storage_unit_request. A call takes one request of one processor (fetch, store,
  * one of the six key instructions, SET PREFIX or STORE PREFIX) and gives one answer.
  * storage_unit_fetch and storage_unit_store do the same for a fetch and a store, in less time.
+ * storage_unit_play takes a recording, which holds many requests, and writes a line for each.
  *
  * The last part of this header serves most programs: struct storage_unit_machine, which holds what
- * is lent, and a function for each of the ten operations, its operands under their own names.
+ * is lent, and a function for each of the ten operations, its operands under their own names, and
+ * one that plays a recording.
  *
  * The functions are in the static library libstorage_unit.a, for x86-64 Linux, which needs memmove
  * from the C library and nothing else. What a call answers and leaves is proved; it is defined in
- * crates/host/specs/Boundary.antt and crates/host_access/specs/ShortWay.antt of the repository.
+ * crates/host/specs, crates/host_access/specs and crates/host_player/specs of the repository.
  *
  * "Bit 0" of a register is the leftmost of 32, as in the manual, GA22-7000. The constants below are
  * plain values, to be used with & and |.
@@ -29,9 +31,9 @@ extern "C" {
 /* ---- The version: 10000 x major + 100 x minor + patch, to be used with #if too. */
 
 #define STORAGE_UNIT_VERSION_MAJOR 0u
-#define STORAGE_UNIT_VERSION_MINOR 2u
+#define STORAGE_UNIT_VERSION_MINOR 3u
 #define STORAGE_UNIT_VERSION_PATCH 0u
-#define STORAGE_UNIT_VERSION_TEXT  "0.2.0"
+#define STORAGE_UNIT_VERSION_TEXT  "0.3.0"
 
 #define STORAGE_UNIT_VERSION \
     (10000u * STORAGE_UNIT_VERSION_MAJOR + 100u * STORAGE_UNIT_VERSION_MINOR \
@@ -150,6 +152,53 @@ uint32_t storage_unit_version(void);
 #define STORAGE_UNIT_KEY_CONTROL    0x04u /* CR0 bit 7, storage-key-exception control */
 
 /*
+ * ---- Recordings. A recording is a sequence of records, each a request of a processor or a remark.
+ * A record is a length of two bytes, which counts what follows it and is at most 512, a kind of two
+ * bytes, and, with the number of bytes of each:
+ *
+ * kind 1    fetch: processor (1), address (4), length (2)
+ * kind 2    store: processor (1), address (4), length (2), then as many data bytes
+ * kind 3    key instruction: processor (1), instruction (1), R1 (4), R2 or address (4); the
+ *           instructions 0 to 5 are ISK, SSK, RRB, ISKE, SSKE and RRBE
+ * kind 4    prefix instruction: processor (1), 0 for SET PREFIX or 1 for STORE PREFIX (1), word (4)
+ * kind 255  remark, of 0 to 256 bytes
+ *
+ * All numbers are little-endian. A record of another kind, instruction or prefix instruction, of a
+ * wrong length, of a length over 512, or one in which the recording ends, is bad. R1 of RRB and
+ * RRBE and the word of STORE PREFIX are there and are ignored.
+ *
+ * Requests and records are counted from 1. A request is answered as by storage_unit_request, and
+ * its line is its ordinal among requests, the number and the place of the answer, in decimal, as
+ * in "1 0 0" and "2 5 3". What is wrong with a request and not with its record, as another
+ * processor than 0 and 1, or a length of 0 or over 256, is in its answer. A remark has no line. The
+ * line of a bad record is "bad record" and its ordinal among all records, and ends the run. A line
+ * has one line end, hex 0A.
+ */
+
+#define STORAGE_UNIT_PLAY_MORE    0u /* every whole record of the piece is played */
+#define STORAGE_UNIT_PLAY_ENDED   1u /* the recording is at its end, or a bad record has its line */
+#define STORAGE_UNIT_PLAY_ROOM    2u /* under 64 bytes of the output are left */
+#define STORAGE_UNIT_PLAY_LIMIT   3u /* an ordinal is 18446744073709551615: nothing more is played */
+#define STORAGE_UNIT_PLAY_REFUSED 4u /* wrong settings, or a player of a wrong length */
+
+#define STORAGE_UNIT_PLAY_RECORD_MAXIMUM 514u /* bytes of the longest record, its length included */
+#define STORAGE_UNIT_PLAY_OUTPUT_MINIMUM 64u  /* bytes of output that any one line has room in */
+
+/*
+ * A player: the records of both processors, and how far the run has come. The numbers are zero at
+ * the start of a recording. On x86-64 the struct is the 48 bytes that storage_unit_play takes.
+ */
+struct storage_unit_player {
+    uint8_t records[STORAGE_UNIT_RECORDS_LENGTH];
+    uint64_t requests;     /* requests so far */
+    uint64_t records_read; /* records of the recording so far, remarks included */
+    uint64_t read;         /* bytes of the piece that the call has read */
+    uint64_t written;      /* bytes of text that the call has written */
+};
+
+#define STORAGE_UNIT_PLAYER_LENGTH 48u
+
+/*
  * ---- What a call never writes. "Never" is proved for all numbers and bytes: after the call each
  * such byte has the value that it had before.
  *
@@ -169,9 +218,14 @@ uint32_t storage_unit_version(void);
  * the change bit, RRB and RRBE set the reference bit to zero; SSK and SSKE replace the key. Hex 01
  * of a key that is written becomes zero.
  *
+ * storage_unit_play writes storage, keys and records as the requests that it plays do; of the
+ * player also the four numbers behind the records; of the output the first `written` bytes and
+ * never those behind them; the piece never. Refused, it writes nothing at all.
+ *
  * Bytes behind a pointer to const are only read, and may be in read-only memory: the storage of
- * storage_unit_fetch and the bytes of storage_unit_store. Other memory that is lent must be
- * writable: an instruction puts a condition code into its record also where it stays the same.
+ * storage_unit_fetch, the bytes of storage_unit_store, the piece of storage_unit_play. Other memory
+ * that is lent must be writable: an instruction puts a condition code into its record also where it
+ * stays the same.
  */
 
 /*
@@ -242,6 +296,43 @@ uint64_t storage_unit_store(uint32_t settings,
                             uint8_t *keys, size_t keys_length,
                             uint64_t record, uint32_t address,
                             const uint8_t *bytes, size_t count);
+
+/*
+ * storage_unit_play: plays the next bytes of a recording.
+ *
+ * settings       As for storage_unit_request. Another bit: refused.
+ * storage, keys  As for storage_unit_request. A wrong length is in the answer to every request.
+ * player         A struct storage_unit_player, by its bytes: 48. Another length: refused. The call
+ *                goes on from its records and ordinals, leaves them as they are then, and leaves
+ *                the number of bytes that it has read and written. A wrong record is in the answer
+ *                to every request of its processor.
+ * piece          The next bytes of the recording, as many as the caller likes. First those that
+ *                the call before has not read.
+ * last           Not 0: nothing comes behind the piece.
+ * output         Room for the lines, which the call puts at its start.
+ *
+ * Each record is played as soon as it is whole. A record that is not, and one that is bad, wait for
+ * more bytes, unless the piece is the last or has 514 bytes from there on. Returns
+ *
+ * STORAGE_UNIT_PLAY_MORE     Put the unread rest of the piece, which is under 514 bytes, in front
+ *                            of the next bytes, and call again.
+ * STORAGE_UNIT_PLAY_ENDED    The run is at its end. Behind a bad record nothing is played; its
+ *                            line is the last.
+ * STORAGE_UNIT_PLAY_ROOM     Take the lines from the output and call again with the unread rest of
+ *                            the piece, and with at least 64 bytes of output. Nothing is lost.
+ * STORAGE_UNIT_PLAY_LIMIT    The requests or the records can be counted no further.
+ * STORAGE_UNIT_PLAY_REFUSED  Nothing has changed, not even the player.
+ *
+ * What the caller must see to is as for storage_unit_request: storage, keys, player, piece and
+ * output do not overlap.
+ */
+uint32_t storage_unit_play(uint32_t settings,
+                           uint8_t *storage, size_t storage_length,
+                           uint8_t *keys, size_t keys_length,
+                           uint8_t *player, size_t player_length,
+                           const uint8_t *piece, size_t piece_length,
+                           uint32_t last,
+                           uint8_t *output, size_t output_length);
 
 /* The number of an answer: one of STORAGE_UNIT_NUMBER_... */
 static inline uint32_t storage_unit_number(uint64_t answer)
@@ -520,6 +611,44 @@ static inline uint64_t storage_unit_store_prefix(const struct storage_unit_machi
 {
     return storage_unit_machine_request(machine, processor_number, STORAGE_UNIT_STORE_PREFIX, 0u,
                                         0u);
+}
+
+/* For the function below: copies the records of both processors. */
+static inline void storage_unit_copy_records(uint8_t *to, const uint8_t *from)
+{
+    size_t i;
+
+    for (i = 0; i < STORAGE_UNIT_RECORDS_LENGTH; i++) {
+        to[i] = from[i];
+    }
+}
+
+/*
+ * Plays the next bytes of a recording on the machine, as storage_unit_play does. The records are
+ * those of the machine: the call copies them to the player and back, and they may be the player's
+ * own. Machine records of another length than 16: refused.
+ */
+static inline uint32_t storage_unit_play_piece(const struct storage_unit_machine *machine,
+                                               struct storage_unit_player *player,
+                                               const uint8_t *piece, size_t piece_length,
+                                               int last, uint8_t *output, size_t output_length)
+{
+    uint32_t result;
+
+    /* Before the player is written: refused, it stays as it is. */
+    if (machine->settings > (STORAGE_UNIT_4K | STORAGE_UNIT_EXTENSIONS)
+        || machine->records_length != STORAGE_UNIT_RECORDS_LENGTH) {
+        return STORAGE_UNIT_PLAY_REFUSED;
+    }
+    storage_unit_copy_records(player->records, machine->records);
+    result = storage_unit_play(machine->settings,
+                               machine->storage, machine->storage_length,
+                               machine->keys, machine->keys_length,
+                               (uint8_t *)player, sizeof *player,
+                               piece, piece_length, last != 0 ? 1u : 0u,
+                               output, output_length);
+    storage_unit_copy_records(machine->records, player->records);
+    return result;
 }
 
 #ifdef __cplusplus

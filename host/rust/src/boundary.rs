@@ -29,8 +29,8 @@
 //! ```
 
 use crate::{
-    AccessKind, Answer, Completed, KeyInstruction, PrefixInstruction, Processor, Reason, Refusal,
-    Request, Rule, Settings,
+    AccessKind, Answer, Completed, KeyInstruction, PlayStatus, Played, Player, PrefixInstruction,
+    Processor, Reason, Refusal, Request, Rule, Settings,
 };
 
 unsafe extern "C" {
@@ -88,6 +88,26 @@ unsafe extern "C" {
         bytes: *const u8,
         count: usize,
     ) -> u64;
+
+    /// The C function of the static library that plays a recording.
+    ///
+    /// # Safety
+    ///
+    /// As for every [`RawPlay`].
+    pub fn storage_unit_play(
+        settings: u32,
+        storage: *mut u8,
+        storage_length: usize,
+        keys: *mut u8,
+        keys_length: usize,
+        player: *mut u8,
+        player_length: usize,
+        piece: *const u8,
+        piece_length: usize,
+        last: u32,
+        output: *mut u8,
+        output_length: usize,
+    ) -> u32;
 
     /// The C function of the static library that gives its version:
     /// 10,000 x major + 100 x minor + patch.
@@ -156,6 +176,27 @@ pub type RawStore = unsafe extern "C" fn(
     count: usize,
 ) -> u64;
 
+/// The type of the C function that plays a recording: its next bytes, behind which nothing comes
+/// if `last` is not 0. It gives one of the numbers `PLAY_...`.
+///
+/// # Safety
+///
+/// As for [`RawRequest`]; the piece is only read.
+pub type RawPlay = unsafe extern "C" fn(
+    settings: u32,
+    storage: *mut u8,
+    storage_length: usize,
+    keys: *mut u8,
+    keys_length: usize,
+    player: *mut u8,
+    player_length: usize,
+    piece: *const u8,
+    piece_length: usize,
+    last: u32,
+    output: *mut u8,
+    output_length: usize,
+) -> u32;
+
 /// Setting: the 4K facility is present.
 pub const FOUR_K: u32 = 1;
 /// Setting: the key-instruction extensions are present.
@@ -206,6 +247,34 @@ pub const RRBE: u32 = 7;
 pub const SET_PREFIX: u32 = 8;
 /// Operation number of STORE PREFIX.
 pub const STORE_PREFIX: u32 = 9;
+
+/// The number of bytes of a player: the records of both processors, then four numbers of eight
+/// bytes each, the least significant byte first.
+pub const PLAYER_LENGTH: usize = 48;
+/// The place in a player of the number of requests so far.
+pub const PLAYER_REQUESTS_AT: usize = 16;
+/// The place in a player of the number of records of the recording so far.
+pub const PLAYER_RECORDS_AT: usize = 24;
+/// The place in a player of the number of bytes of the piece that the call has read.
+pub const PLAYER_READ_AT: usize = 32;
+/// The place in a player of the number of bytes of text that the call has written.
+pub const PLAYER_WRITTEN_AT: usize = 40;
+
+/// What playing gives: every whole record of the piece is played.
+pub const PLAY_MORE: u32 = 0;
+/// What playing gives: the run is at its end.
+pub const PLAY_ENDED: u32 = 1;
+/// What playing gives: under [`PLAY_OUTPUT_MINIMUM`] bytes of the output are left.
+pub const PLAY_ROOM: u32 = 2;
+/// What playing gives: an ordinal is the greatest of 64 bits.
+pub const PLAY_LIMIT: u32 = 3;
+/// What playing gives: wrong settings or a player of a wrong length; nothing has changed.
+pub const PLAY_REFUSED: u32 = 4;
+
+/// The number of bytes of the longest record of a recording, its length included.
+pub const PLAY_RECORD_MAXIMUM: usize = 514;
+/// The number of bytes of output that any one line has room in.
+pub const PLAY_OUTPUT_MINIMUM: usize = 64;
 
 /// The settings as a number.
 #[inline]
@@ -585,4 +654,110 @@ unsafe fn call_with_records(
         *processors = decode_processors(&records);
     }
     packed
+}
+
+/// Plays the next bytes of a recording through a C function with slices: settings, storage, keys,
+/// player, piece, whether it is the last, output.
+///
+/// # Safety
+///
+/// `raw` must be a function as [`RawPlay`] describes it.
+#[must_use]
+#[allow(clippy::too_many_arguments)]
+pub unsafe fn call_play_raw(
+    raw: RawPlay,
+    settings: u32,
+    storage: &mut [u8],
+    keys: &mut [u8],
+    player: &mut [u8],
+    piece: &[u8],
+    last: u32,
+    output: &mut [u8],
+) -> u32 {
+    // SAFETY: every pointer comes with the length of the slice it was taken from; what is
+    // written is lent exclusively. The caller guarantees what the function does.
+    unsafe {
+        raw(
+            settings,
+            storage.as_mut_ptr(),
+            storage.len(),
+            keys.as_mut_ptr(),
+            keys.len(),
+            player.as_mut_ptr(),
+            player.len(),
+            piece.as_ptr(),
+            piece.len(),
+            last,
+            output.as_mut_ptr(),
+            output.len(),
+        )
+    }
+}
+
+/// Plays the next bytes of a recording through a C function.
+///
+/// # Safety
+///
+/// `raw` must be a function as [`RawPlay`] describes it.
+#[allow(clippy::too_many_arguments)]
+pub unsafe fn call_play(
+    raw: RawPlay,
+    settings: Settings,
+    storage: &mut [u8],
+    keys: &mut [u8],
+    processors: &mut [Processor; 2],
+    player: &mut Player,
+    piece: &[u8],
+    last: bool,
+    output: &mut [u8],
+) -> Played {
+    let mut bytes = encode_player(processors, player);
+    // SAFETY: the caller guarantees what the function does.
+    let result = unsafe {
+        call_play_raw(
+            raw,
+            encode_settings(settings),
+            storage,
+            keys,
+            &mut bytes,
+            piece,
+            last.into(),
+            output,
+        )
+    };
+    let [read, written];
+    (*processors, *player, [read, written]) = decode_player(&bytes);
+    Played {
+        // Never more, but by a library of another version.
+        read: read.min(piece.len()),
+        written: written.min(output.len()),
+        status: PlayStatus::from_number(result),
+    }
+}
+
+/// The bytes of a player, with both numbers of a call zero.
+fn encode_player(processors: &[Processor; 2], player: &Player) -> [u8; PLAYER_LENGTH] {
+    let mut bytes = [0; PLAYER_LENGTH];
+    bytes[..RECORDS_LENGTH].copy_from_slice(&encode_processors(processors));
+    bytes[PLAYER_REQUESTS_AT..][..8].copy_from_slice(&player.requests.to_le_bytes());
+    bytes[PLAYER_RECORDS_AT..][..8].copy_from_slice(&player.records.to_le_bytes());
+    bytes
+}
+
+/// The records, the ordinals, and the bytes read and written, from the bytes of a player.
+fn decode_player(bytes: &[u8; PLAYER_LENGTH]) -> ([Processor; 2], Player, [usize; 2]) {
+    let number = |place: usize| {
+        let mut number = [0; 8];
+        number.copy_from_slice(&bytes[place..place + 8]);
+        u64::from_le_bytes(number)
+    };
+    let mut records = [0; RECORDS_LENGTH];
+    records.copy_from_slice(&bytes[..RECORDS_LENGTH]);
+    let player = Player {
+        requests: number(PLAYER_REQUESTS_AT),
+        records: number(PLAYER_RECORDS_AT),
+    };
+    // A number of bytes of a slice is a usize, which has 64 bits where the library is.
+    let counts = [PLAYER_READ_AT, PLAYER_WRITTEN_AT].map(|place| number(place) as usize);
+    (decode_processors(&records), player, counts)
 }

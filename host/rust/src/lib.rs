@@ -5,7 +5,8 @@
 //! the [`Cpu`] that [`Machine::cpu`] gives has a method for each operation. A request gives a
 //! [`Completed`] or a [`Refusal`], and one that is refused has changed nothing. Most [`Reason`]s are
 //! the manual's program exceptions. The functions [`request`], [`fetch`] and [`store`] do the same
-//! with what is lent to each call.
+//! with what is lent to each call. [`Machine::play`] and [`Machine::play_all`] take a recording of
+//! many requests, and give a line of text for each.
 //!
 //! The work is done by the static library `libstorage_unit.a`, for x86-64 Linux. What it answers
 //! and leaves is proved for all inputs, against rules that rest on the IBM System/370 Principles
@@ -55,6 +56,7 @@ mod answers;
 pub mod boundary;
 mod calls;
 mod machine;
+mod player;
 mod requests;
 mod state;
 mod version;
@@ -62,6 +64,7 @@ mod version;
 pub use answers::{Answer, Completed, Reason, Refusal, Rule, UnknownReason};
 pub use calls::{fetch, request, store};
 pub use machine::{BorrowedMachine, Cpu, Machine};
+pub use player::{PlayStatus, Played, Player};
 pub use requests::{AccessKind, KeyInstruction, PrefixInstruction, Request};
 pub use state::{ACCESS_MAXIMUM, Processor, STORAGE_MAXIMUM, STORAGE_MULTIPLE, Settings, key};
 pub use version::{VERSION, Version, version};

@@ -92,6 +92,14 @@ fn numbers_are_those_of_the_header() {
         ("PROBLEM", PROBLEM.into()),
         ("LOW_PROTECTION", LOW_PROTECTION.into()),
         ("KEY_CONTROL", KEY_CONTROL.into()),
+        ("PLAY_MORE", PLAY_MORE.into()),
+        ("PLAY_ENDED", PLAY_ENDED.into()),
+        ("PLAY_ROOM", PLAY_ROOM.into()),
+        ("PLAY_LIMIT", PLAY_LIMIT.into()),
+        ("PLAY_REFUSED", PLAY_REFUSED.into()),
+        ("PLAY_RECORD_MAXIMUM", PLAY_RECORD_MAXIMUM as u64),
+        ("PLAY_OUTPUT_MINIMUM", PLAY_OUTPUT_MINIMUM as u64),
+        ("PLAYER_LENGTH", PLAYER_LENGTH as u64),
     ]);
     let mut found = numbers();
     for reason in Reason::ALL {

@@ -7,6 +7,8 @@
 //! | [`plain`] | ordinary hand-written Rust, for comparison of speed |
 //!
 //! All have a function with the same parameters for any request, and each is a [`Unit`].
+//! [`player`] is document 02's player of recordings, on the reference, and [`plain_player`] an
+//! ordinary one, on [`plain`], for comparison of speed.
 
 #![deny(missing_docs)]
 #![deny(unsafe_op_in_unsafe_fn)]
@@ -14,6 +16,8 @@
 
 pub mod numbers;
 pub mod plain;
+pub mod plain_player;
+pub mod player;
 pub mod reference;
 pub mod units;
 

@@ -1,8 +1,9 @@
-//! What the tests share: random numbers, lent state, random requests.
+//! What the tests share: random numbers, lent state, random requests and recordings.
 
 #![allow(dead_code)]
 
 pub mod cases;
+pub mod recordings;
 
 use std::env;
 use std::str::FromStr;

@@ -3,10 +3,16 @@
 pub mod Texts
 pub mod Decimal
 pub mod Lines
--- One record: its size, a request, what is no request, the tests before
-pub mod Sizes
+-- One record: a request, what is no request, the tests before
 pub mod Requests
 pub mod Asides
 pub mod Records
 -- Record after record
 pub mod Playing
+-- The run of a recording, and that the routines play it
+pub mod Runs
+pub mod Parts
+pub mod Stopping
+pub mod Pieces
+-- The case that 02 gives
+pub mod GivenCase

@@ -13,6 +13,7 @@ use Rattle.machine.specs.declared.Settings.{Settings}
 use Rattle.trace.specs.declared.Read.{Read}
 use Rattle.trace.specs.declared.Read.the-variants.{Request as ARequest, Remark, Bad, End}
 use Rattle.trace.specs.Trace.{readOf}
+use Rattle.trace.proofs.Front.{size-within, remark-within}
 use Rattle.player.specs.declared.Player.{Player}
 use Rattle.player.specs.declared.Played.{Played}
 use Rattle.player.specs.declared.Status.{Status}
@@ -21,7 +22,6 @@ use Rattle.player.specs.Text.{over, badText}
 use Rattle.player.specs.Run.{Progress, afterOther}
 use Rattle.player.specs.Play.{progressOf, Left, left, requestPlayed, badPlayed, readPlayed, ordinalsUsed, recordPlayed, passes, then, played}
 use Rattle.player.specs.Play.{PlayOutcome, playOutcome, playOutcomeOf}
-use Rattle.player.proofs.Sizes.{request-within, remark-within}
 
 -- what is read lies within the bytes
 pick : (n : ℕ) (b : Bool) (x y : Left) → x .read ≤ n → y .read ≤ n → cond b x y .read ≤ n
@@ -31,7 +31,7 @@ pick n false x y h k = k
 read-fits : (s : Settings) (last : Bool) (p : Progress) (bytes : List ℕ) (found : Read) → readOf bytes ≡ found
     → readPlayed found s last p bytes .read ≤ length bytes
 unfolding readPlayed requestPlayed badPlayed
-read-fits s last p bytes (ARequest n r size) e = request-within bytes n r size e .1
+read-fits s last p bytes (ARequest n r size) e = size-within bytes n r size e .1
 read-fits s last p bytes (Remark size) e = remark-within bytes size e .1
 read-fits s last p bytes Bad e =
     pick (length bytes) (last || leb 514 (length bytes)) (left (badText (p .records + 1)) (afterOther p) 0 Ended) (left [] p 0 More) (omega arith)

@@ -27,7 +27,7 @@ module _ (s : Settings) (last : Bool) (room : ℕ) (p : Progress) (bytes : List 
     unfolding recordPlayed
     is-read u = simp (le-ltb _ _ h, u)
 
-neither : (a b : Bool) → (a || b) ≡ false → (a ≡ false) × (b ≡ false)
+pub neither : (a b : Bool) → (a || b) ≡ false → (a ≡ false) × (b ≡ false)
 neither false false e = (refl, refl)
 neither false true e = (refl, e)
 neither true b e = absurd (not-both refl e)

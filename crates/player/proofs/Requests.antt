@@ -23,12 +23,12 @@ use Rattle.machine.specs.Conditions.{Condition2}
 use Rattle.machine.specs.Turns.{State, Turn, next, given}
 use Rattle.trace.specs.declared.Read.the-variants.{Request as ARequest}
 use Rattle.trace.specs.Trace.{readOf}
+use Rattle.trace.proofs.Front.{size-within, store-size}
 use Rattle.player.specs.declared.Player.{Player}
 use Rattle.player.specs.declared.Status.the-variants.{Passed}
 use Rattle.player.specs.Text.{pasted, over, lineText}
 use Rattle.player.specs.Run.{progress, bufferOf, turnOf, lineOf, textOfLine}
 use Rattle.player.specs.Play.{stateOf, progressOf, requestPlayed, PlayOutcome, playOutcome, playOutcomeOf}
-use Rattle.player.proofs.Sizes.{request-within, store-within}
 
 -- what `lend` leaves
 abbrev Lent : (r : ℕ) (buffer : List ℕ) (request : Request) (bytes : List ℕ) (size : ℕ) → Type 0
@@ -58,8 +58,8 @@ module _ (bytes : List ℕ) (n : ℕ) (request : Request) (size address count : 
     (front : readOf bytes ≡ ARequest n request size) (access : request ≡ Access kind address count) (store : kind ≡ Store) where
   pub store-sizes : (11 ≤ size) × (size ≤ length bytes) × (size ≤ 514)
   store-sizes =
-      let w = request-within bytes n request size front in
-      (store-within bytes n address count size (rw (access, store) at front), w .1, w .2)
+      let within = size-within bytes n request size front in
+      (omega (arith, store-size bytes n address count size (rw (access, store) at front)), within .1, within .2)
 
   data-length : length (take (size - 11) (drop 11 bytes)) ≤ 503
   data-length = simp (length-take, length-drop) (omega (arith, store-sizes))

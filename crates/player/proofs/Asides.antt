@@ -1,8 +1,8 @@
 -- What is no request: a remark, a bad record and the end of the bytes leave what the definitions say. Assumes nothing.
-use Prim.Native.Nat.{ℕ, _+_}
+use Prim.Native.Nat.{ℕ}
 use native.Mathlib.Omega.{arith}
-use mathlib.Core.Path.{_≡_, refl, ap, sym, _∙_}
-use mathlib.Core.Bool.{Bool, true, false, cond, _||_}
+use mathlib.Core.Path.{_≡_, refl, ap}
+use mathlib.Core.Bool.{Bool, true, false, _||_}
 use mathlib.Core.List.{List, [], _∷_}
 use mathlib.Core.Logic.{⊎-elim}
 use lib.ListN.{length}
@@ -20,7 +20,7 @@ use Rattle.player.specs.declared.Played.{Played}
 use Rattle.player.specs.declared.Status.the-variants.{Passed, Ended, More}
 use Rattle.player.specs.Text.{over, badText}
 use Rattle.player.specs.Run.{Progress, afterOther}
-use Rattle.player.specs.Play.{progressOf, left, badPlayed, endPlayed, isRequest, readPlayed, PlayOutcome, playOutcome, playOutcomeOf}
+use Rattle.player.specs.Play.{progressOf, left, badPlayed, endPlayed, isRequest, readPlayed, playOutcome, playOutcomeOf}
 
 none-is-0 : OneOf (1 ∷ 2 ∷ 3 ∷ []) 0 → ⊥
 none-is-0 = ⊎-elim (λ e. omega arith) (⊎-elim (λ e. omega arith) (λ e. omega arith))
@@ -37,7 +37,7 @@ request-told found n r size h e = not-both (ap (λ (x : Read). isRequest x) e) h
 module _ (p : Player) (bytes : List ℕ) (last : Bool) (output : List ℕ) where
   pub bad-decided : (p' : Player) (written : ℕ) (output' : List ℕ) → (last || leb 514 (length bytes)) ≡ true
       → ((storage keys : List ℕ) → progressOf p' storage keys ≡ afterOther (progressOf p storage keys))
-      → (written ≡ length (badText (p .records + 1))) × (output' ≡ over (badText (p .records + 1)) output)
+      → (written ≡ length (badText (p' .records))) × (output' ≡ over (badText (p' .records)) output)
       → (storage keys : List ℕ) → playOutcome (record { player = p'; read = 0; written = written; status = Ended }) storage keys output'
       ≡ playOutcomeOf (badPlayed last (progressOf p storage keys) bytes) output
   unfolding badPlayed
@@ -47,9 +47,9 @@ module _ (p : Player) (bytes : List ℕ) (last : Bool) (output : List ℕ) where
       (λ (q : Progress). record {
         progress = q;
         read = 0;
-        written = length (badText (p .records + 1));
+        written = length (badText (q .records));
         status = Ended;
-        output = over (badText (p .records + 1)) output;
+        output = over (badText (q .records)) output;
       })
       (counted storage keys))
 

@@ -1,6 +1,6 @@
 -- The case that 02 gives whole: one fetch, one line. Storage stays a variable, of which only the length is used. Assumes nothing.
-use Prim.Native.Nat.{ℕ, suc}
-use mathlib.Core.Path.{_≡_, refl, sym, ap, _∙_}
+use Prim.Native.Nat.{ℕ}
+use mathlib.Core.Path.{_≡_, refl, ap, _∙_}
 use mathlib.Core.List.{List, [], _∷_, _++_}
 use mathlib.Core.Option.{none}
 use lib.ListN.{length, replicate, length-replicate}
@@ -16,7 +16,6 @@ use Rattle.machine.specs.Table.{addressing, protection, beforeProtection, verdi
 use Rattle.machine.specs.Step.{storageLeft, bufferLeft, keysRecorded, completed, performed, step}
 use Rattle.machine.specs.Pair.{served, pairStep}
 use Rattle.machine.specs.Turns.{State, Turn, next, given}
-use Rattle.trace.specs.Trace.{readOf}
 use Rattle.trace.proofs.Front.{given-case, nothing-is-end}
 use Rattle.player.specs.Text.{decimalIn, lineText}
 use Rattle.player.specs.Run.{startSettings, startRecords, startState, startProgress, turnOf, lineOf, ended, behind, onRead, runFrom}

@@ -11,6 +11,7 @@ pub mod Records
 pub mod Playing
 -- The run of a recording, and that the routines play it
 pub mod Runs
+pub mod Sentences
 pub mod Parts
 pub mod Stopping
 pub mod Pieces

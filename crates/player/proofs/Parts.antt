@@ -1,15 +1,15 @@
 -- A recording that comes in parts is played as the whole: what a call writes is the front of what the run writes, and the rest of the run goes
 -- on from what it leaves. A record that was read stays the same whatever bytes follow, and 514 bytes decide that one is bad.
 -- Assumes nothing.
-use Prim.Native.Nat.{ℕ, zero, suc, _+_, _-_, _≤_, _<_}
+use Prim.Native.Nat.{ℕ, zero, suc, _+_, _-_}
 use native.Mathlib.Omega.{arith}
 use mathlib.Core.Path.{_≡_, refl, sym, ap, _∙_}
 use mathlib.Core.Bool.{Bool, true, false, cond, _||_}
-use mathlib.Core.List.{List, [], _∷_, _++_, append-assoc, append-nil}
-use lib.ListN.{length, take, drop, length-drop}
+use mathlib.Core.List.{List, [], _++_, append-assoc, append-nil}
+use lib.ListN.{length, drop, length-drop}
 use lib.Seq.{drop-drop, drop-append-le, take-append-le}
 use lib.Dec.{leb, ltb}
-use borrow.Author.Tests.{leb-true, leb-false}
+use borrow.Author.Tests.{leb-true}
 use Rattle.machine.specs.declared.Settings.{Settings}
 use Rattle.machine.specs.declared.Request.{Request}
 use Rattle.machine.specs.declared.Request.the-variants.{Access, Key, Prefix}
@@ -18,13 +18,13 @@ use Rattle.machine.specs.Turns.{Turn}
 use Rattle.machine.proofs.Verdicts.{not-both}
 use Rattle.trace.specs.declared.Read.{Read}
 use Rattle.trace.specs.declared.Read.the-variants.{Request as ARequest, Remark, Bad, End}
-use Rattle.trace.specs.Trace.{readOf, dataOf}
+use Rattle.trace.specs.Trace.{readOf}
 use Rattle.trace.proofs.Front.{size-within, store-size, remark-within, decided, stable-request, stable-remark}
 use Rattle.player.specs.declared.Status.{Status}
 use Rattle.player.specs.declared.Status.the-variants.{Passed, More, Ended, Room, Limit}
 use Rattle.player.specs.Text.{badText}
 use Rattle.player.specs.Run.{Progress, turnOf, bufferOf, afterRequest, afterOther, lineOf, Run, behind, onRead, runFrom, textOfLines, textOf}
-use Rattle.player.specs.Play.{Left, left, requestPlayed, badPlayed, endPlayed, readPlayed, ordinalsUsed, recordPlayed, passes, then, played}
+use Rattle.player.specs.Play.{Left, left, requestPlayed, badPlayed, readPlayed, ordinalsUsed, recordPlayed, passes, then, played}
 use Rattle.player.specs.Parts.{textFrom, stateFrom, isEnded, textAfter, stateAfter, FrontOfRun, PlayIsRun}
 use Rattle.player.proofs.Runs.{run-begins, text-behind}
 

@@ -2,20 +2,12 @@
 use Prim.Native.Nat.{ℕ, _+_, _≤_, _<_}
 use native.Mathlib.Numerals.{add-one}
 use native.Mathlib.Omega.{arith}
-use native.Mathlib.Nat.{add-zero, add-assoc}
+use native.Mathlib.Nat.{add-assoc}
 use mathlib.Core.Path.{_≡_, refl, sym, ap, _∙_}
-use mathlib.Core.List.{List, [], _++_, append-assoc, append-nil}
-use lib.ListN.{length, getD, set, take, drop, length-append, length-take, length-drop, take-append-drop}
+use mathlib.Core.List.{List, _++_, append-assoc}
+use lib.ListN.{length, getD, set, take, drop, length-append, length-take}
 use lib.Seq.{paste, paste-suc, take-at, drop-append-add, drop-drop, take-length}
 use Rattle.player.specs.Text.{pasted}
-
-pub pasted-none : (d : List ℕ) (at : ℕ) → pasted d at [] ≡ d
-unfolding pasted
-pasted-none d at = rw (append-nil (take at d), add-zero at) (take-append-drop at d)
-
-pub length-pasted : (d : List ℕ) (at : ℕ) (text : List ℕ) → at + length text ≤ length d → length (pasted d at text) ≡ length d
-unfolding pasted
-length-pasted d at text h = simp (length-append, length-take, length-drop) (omega arith)
 
 -- what a loop that copies has put after all its turns
 pub paste-is : (d : List ℕ) (at : ℕ) (text : List ℕ) → paste d at text (length text) ≡ pasted d at text

@@ -58,6 +58,7 @@ readPlayed (Remark size) s last p bytes = left [] (afterOther p) size Passed
 readPlayed Bad s last p bytes = badPlayed last p bytes
 readPlayed End s last p bytes = endPlayed last p
 
+-- what was read is a request
 abbrev pub isRequest : Read → Bool
 isRequest (ARequest n r size) = true
 isRequest (Remark size) = false
@@ -75,6 +76,7 @@ recordPlayed s last room p bytes =
     (cond (ordinalsUsed p) (left [] p 0 Limit)
     (readPlayed (readOf bytes) s last p bytes))
 
+-- another record may follow
 abbrev pub passes : Status → Bool
 passes Passed = true
 passes More = false

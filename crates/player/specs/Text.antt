@@ -13,14 +13,14 @@ pasted d at text = take at d ++ text ++ drop (at + length text) d
 unfoldable pub over : List ℕ → List ℕ → List ℕ
 over text d = text ++ drop (length text) d
 
--- the decimal digits of a number that has at most so many
-unfoldable pub decimalIn : ℕ → ℕ → List ℕ
+-- the last k decimal digits of a number, fewer where it has fewer: no leading zero
+unfoldable pub decimalIn : (k n : ℕ) → List ℕ
 decimalIn zero n = []
 decimalIn (suc k) n = cond (ltb n 10) ((48 + n) ∷ []) (decimalIn k (n / 10) ++ ((48 + n % 10) ∷ []))
 
--- the decimal digits of a 64-bit number
+-- the decimal digits of a number, which has at most one more than it counts
 abbrev pub decimalOf : ℕ → List ℕ
-decimalOf n = decimalIn 20 n
+decimalOf n = decimalIn (suc n) n
 
 -- a blank, and a line end
 abbrev pub blank : List ℕ

@@ -112,9 +112,10 @@ fn bad_record(player: Player, bytes: &[u8], last: bool, output: &mut [u8]) -> Pl
         ≡ playOutcomeOf (badPlayed last (progressOf player storage keys) (now (bytes .entry))) (now (output .entry))) ⌝ }
 {
     if last | (RECORD_MAXIMUM <= bytes.len()) {
-        let written = put_bad(output, player.records + 1);
+        let after = counted(player);
+        let written = put_bad(output, after.records);
         return Played {
-            player: counted(player),
+            player: after,
             read: 0,
             written,
             status: Status::Ended,

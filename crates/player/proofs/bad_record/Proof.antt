@@ -4,24 +4,22 @@ use borrow.Author.Needs.{needs}
 use Rattle.player.proofs.bad_record.Statement.{statement}
 use Rattle.player.proofs.bad_record.Tie as tie
 
-add-put-bad : tie.Need-add-put-bad
-add-put-bad c = search needs
+counted-requires : tie.Need-counted-requires
+counted-requires c κs = search needs
 
 put-bad-requires : tie.Need-put-bad-requires
 put-bad-requires c κs = search needs
-
-counted-requires : tie.Need-counted-requires
-counted-requires c κs = search needs
 
 same-length : tie.Need-same-length
 same-length c = search needs
 
 returns : tie.Need-returns
 returns c =
-    let line = c .before .before .before in
-    let tested = line .before .before .before in
+    let line = c .before .before in
+    let count = line .before .before in
+    let tested = count .before in
     let start = tested .before .before .before in
-    bad-decided (start .args .player) (start .args .bytes .now) (start .args .last) _ _ _ _ (tested .if1 .taken) (c .counted .ensures)
+    bad-decided (start .args .player) (start .args .bytes .now) (start .args .last) _ _ _ _ (tested .if1 .taken) (count .counted .ensures)
     (line .put-bad .ensures)
 
 stopped-requires : tie.Need-stopped-requires
@@ -36,11 +34,4 @@ returns-2 c =
 pub bad-record-spec : {M : Type 1} → statement M
 bad-record-spec =
     tie.close
-    (tie.spec
-    add-put-bad
-    put-bad-requires
-    counted-requires
-    same-length
-    returns
-    stopped-requires
-    returns-2)
+    (tie.spec counted-requires put-bad-requires same-length returns stopped-requires returns-2)

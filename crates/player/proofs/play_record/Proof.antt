@@ -1,6 +1,6 @@
 -- `play_record` tests room and ordinals, reads the record, and leaves what the two ways do. Assumes nothing.
 use native.Mathlib.Omega.{arith}
-use mathlib.Core.Path.{_≡_, sym, _∙_}
+use mathlib.Core.Path.{sym, _∙_}
 use Rattle.player.proofs.Asides.{no-request}
 use Rattle.player.proofs.Records.{no-room, no-ordinals, is-read, ordinals-left}
 use Rattle.player.specs.Play.{readPlayed}

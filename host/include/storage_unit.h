@@ -11,9 +11,10 @@
  * is lent, and a function for each of the ten operations, its operands under their own names, and
  * one that plays a recording.
  *
- * The functions are in the static library libstorage_unit.a, for x86-64 Linux, which needs memmove
- * from the C library and nothing else. What a call answers and leaves is proved; it is defined in
- * crates/host/specs, crates/host_access/specs and crates/host_player/specs of the repository.
+ * The functions are in the static library libstorage_unit.a, for x86-64 Linux, which needs memcpy,
+ * memmove and memset from the C library and nothing else. What a call answers and leaves is proved;
+ * it is defined in the repository, in crates/host/specs/Boundary.antt,
+ * crates/host_access/specs/ShortWay.antt and crates/host_player/specs/Playing.antt.
  *
  * "Bit 0" of a register is the leftmost of 32, as in the manual, GA22-7000. The constants below are
  * plain values, to be used with & and |.

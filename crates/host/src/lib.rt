@@ -22,7 +22,7 @@ ghost use Rattle.host.specs.Boundary.{versionNumber, Packs, callOutcome,
 pub extern "C" fn storage_unit_version() -> u32
     ensures { λ r. ⌜ r ≡ versionNumber ⌝ }
 {
-    200
+    300
 }
 
 // The answer where line 64 refuses the lengths, where there is no record, or where line 65 refuses it.

@@ -1,0 +1,3 @@
+-- Laws of a player as bytes, and of a call.
+pub mod Numbers
+pub mod Calls

@@ -1,0 +1,2 @@
+-- What a call of the player means.
+pub mod Playing

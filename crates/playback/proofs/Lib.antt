@@ -1,0 +1,3 @@
+-- Laws of the bytes that are held.
+pub mod Held
+pub mod Fits

@@ -1,0 +1,87 @@
+-- What is played lies within what came, and what is written within the output. Assumes nothing.
+use native.Mathlib.Omega.{arith}
+use lib.ListN.{take, length-take}
+use Rattle.playback.proofs.Fits.{reads-within, writes-within}
+use borrow.Author.Needs.{needs}
+use Rattle.playback.proofs.turn.Statement.{statement}
+use Rattle.playback.proofs.turn.Tie as tie
+
+fill-requires : tie.Need-fill-requires
+fill-requires c κs = search needs
+
+settings-requires : tie.Need-settings-requires
+settings-requires c κs = search needs
+
+slice-reshare-prefix-play : tie.Need-slice-reshare-prefix-play
+slice-reshare-prefix-play c = search needs
+
+slice-aggregate-play : tie.Need-slice-aggregate-play
+slice-aggregate-play c = simp length-take (omega (arith, c .before .before .before .before .before .before .fill .ensures))
+
+play-requires : tie.Need-play-requires
+play-requires c κs = search needs
+
+slice-reshare-prefix-write-all : tie.Need-slice-reshare-prefix-write-all
+slice-reshare-prefix-write-all c =
+    let call = c .before .before .before .before .before .before .before in
+    let came = call .before .before .before .before .before .before .before .before in
+    let start = came .before .before .before .before .before .before in
+    let within = writes-within _ _ _ _ (take (came .fill .result) (came .fill .last .0)) (start .args .output .now) _ _ _ _ (call .play .ensures) (call .play .kept .1 .1 .1 .1 .1 .1 .0) in
+    omega (arith, within, call .play .kept .1 .1 .1 .1 .1 .1 .0)
+
+slice-aggregate-write-all : tie.Need-slice-aggregate-write-all
+slice-aggregate-write-all c =
+    let call = c .before .before .before .before .before .before .before .before in
+    let came = call .before .before .before .before .before .before .before .before in
+    let start = came .before .before .before .before .before .before in
+    let within = writes-within _ _ _ _ (take (came .fill .result) (came .fill .last .0)) (start .args .output .now) _ _ _ _ (call .play .ensures) (call .play .kept .1 .1 .1 .1 .1 .1 .0) in
+    simp length-take (omega (arith, within, call .play .kept .1 .1 .1 .1 .1 .1 .0))
+
+write-all-requires : tie.Need-write-all-requires
+write-all-requires c κs = search needs
+
+keep-requires : tie.Need-keep-requires
+keep-requires c κs =
+    let call = c .before .before .before .before .before .before .before .before .before .before in
+    let came = call .before .before .before .before .before .before .before .before in
+    let start = came .before .before .before .before .before .before in
+    let within = reads-within _ _ _ _ (take (came .fill .result) (came .fill .last .0)) (start .args .output .now) _ _ _ _ (call .play .ensures) in
+    (omega (arith, simp length-take at within, came .fill .ensures), omega (arith, came .fill .ensures))
+
+is-ended-requires : tie.Need-is-ended-requires
+is-ended-requires c κs = search needs
+
+same-length : tie.Need-same-length
+same-length c = search needs
+
+same-length-2 : tie.Need-same-length-2
+same-length-2 c = search needs
+
+same-length-3 : tie.Need-same-length-3
+same-length-3 c = search needs
+
+same-length-4 : tie.Need-same-length-4
+same-length-4 c = search needs
+
+returns : tie.Need-returns
+returns c = search needs
+
+pub turn-spec : {M : Type 1} → statement M
+turn-spec =
+    tie.close
+    (tie.spec
+    fill-requires
+    settings-requires
+    slice-reshare-prefix-play
+    slice-aggregate-play
+    play-requires
+    slice-reshare-prefix-write-all
+    slice-aggregate-write-all
+    write-all-requires
+    keep-requires
+    is-ended-requires
+    same-length
+    same-length-2
+    same-length-3
+    same-length-4
+    returns)

@@ -1,33 +1,16 @@
--- What a call of `play` reads lies within its bytes: each record does, and the next has what is left. What it writes lies within its output, since
--- the output keeps its length. Assumes nothing.
-use Prim.Native.Nat.{ℕ, zero, suc, _+_, _-_, _≤_}
+-- What a call of `play` reads lies within its bytes, and what it writes lies within its output, since the output keeps its length. Assumes nothing.
+use Prim.Native.Nat.{ℕ, _≤_}
 use native.Mathlib.Omega.{arith}
 use mathlib.Core.Path.{_≡_, sym, ap, subst, _∙_}
-use mathlib.Core.Bool.{Bool, true, false, cond}
+use mathlib.Core.Bool.{Bool}
 use mathlib.Core.List.{List}
-use lib.ListN.{length, drop, length-append, length-drop}
+use lib.ListN.{length, drop, length-append}
 use Rattle.machine.specs.declared.Settings.{Settings}
 use Rattle.player.specs.declared.Played.{Played}
 use Rattle.player.specs.Text.{over}
 use Rattle.player.specs.Run.{Progress}
-use Rattle.player.specs.Play.{Left, recordPlayed, passes, then, played, PlayOutcome, playOutcome, playOutcomeOf}
-use Rattle.player.proofs.Playing.{record-fits}
-
-pick : (n : ℕ) (b : Bool) (x y : Left) → x .read ≤ n → y .read ≤ n → cond b x y .read ≤ n
-pick n true x y f g = f
-pick n false x y f g = g
-
-played-reads : (n : ℕ) (s : Settings) (last : Bool) (room : ℕ) (p : Progress) (bytes : List ℕ)
-    → played n s last room p bytes .read ≤ length bytes
-unfolding played
-played-reads zero s last room p bytes = omega arith
-played-reads (suc n) s last room p bytes =
-    let o : Left = recordPlayed s last room p bytes in
-    let here = record-fits s last room p bytes in
-    let rest = played-reads n s last (room - length (o .text)) (o .progress) (drop (o .read) bytes) in
-    pick (length bytes) (passes (o .status)) (then o (played n s last (room - length (o .text)) (o .progress) (drop (o .read) bytes))) o
-    (omega (arith, here, rest, length-drop (o .read) bytes))
-    here
+use Rattle.player.specs.Play.{played, PlayOutcome, playOutcome, playOutcomeOf}
+use Rattle.player.proofs.Playing.{play-fits}
 
 over-fits : (text d : List ℕ) → length (over text d) ≡ length d → length text ≤ length d
 unfolding over
@@ -37,7 +20,7 @@ module _ (n : ℕ) (s : Settings) (last : Bool) (p : Progress) (bytes output out
     (left : playOutcome r storage keys output' ≡ playOutcomeOf (played n s last (length output) p bytes) output) where
   pub reads-within : r .read ≤ length bytes
   reads-within =
-      subst (λ (k : ℕ). k ≤ length bytes) (sym (ap (λ (o : PlayOutcome). o .read) left)) (played-reads n s last (length output) p bytes)
+      subst (λ (k : ℕ). k ≤ length bytes) (sym (ap (λ (o : PlayOutcome). o .read) left)) (play-fits n s last (length output) p bytes)
 
   pub writes-within : length output' ≡ length output → r .written ≤ length output
   writes-within kept =

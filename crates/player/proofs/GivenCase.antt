@@ -18,8 +18,8 @@ use Rattle.machine.specs.Pair.{served, pairStep}
 use Rattle.machine.specs.Turns.{State, Turn, next, given}
 use Rattle.trace.proofs.Front.{given-case, nothing-is-end}
 use Rattle.player.specs.Text.{decimalIn, lineText}
-use Rattle.player.specs.Run.{startSettings, startRecords, startState, startProgress, turnOf, lineOf, ended, behind, onRead, runFrom}
-use Rattle.player.specs.Run.{recording, textOfLine, textOfLines, textOf}
+use Rattle.player.specs.Run.{startSettings, startProcessors, startState, startProgress, turnOf, lineOf, ended, lineThen, onRead, runFrom}
+use Rattle.player.specs.Run.{runOf, textOfLine, textOfLines, textOf}
 use Rattle.player.proofs.Runs.{text-behind}
 
 -- bytes 09 00 01 00 00 00 00 00 00 01 00
@@ -27,7 +27,7 @@ abbrev pub givenBytes : List ℕ
 givenBytes = 9 ∷ 0 ∷ 1 ∷ 0 ∷ 0 ∷ 0 ∷ 0 ∷ 0 ∷ 0 ∷ 1 ∷ 0 ∷ []
 
 fetched : (storage : List ℕ) → length storage ≡ 65536
-    → given startSettings (record { storage = storage; keys = replicate 32 0; processors = startRecords })
+    → given startSettings (record { storage = storage; keys = replicate 32 0; processors = startProcessors })
     (record { processorNumber = 0; request = Access Fetch 0 1; buffer = replicate 256 0 }) .answer
     ≡ values (Completed 0 1)
 unfolding written keyOf afterFetch line firstOf firstByte firstLine prefixed permitted lowProtected addressing protection beforeProtection verdict
@@ -42,8 +42,8 @@ abbrev turn : Turn
 turn = turnOf 0 (Access Fetch 0 1) givenBytes 11
 
 -- the fetch is the only record
-run : recording givenBytes ≡ behind (lineOf startSettings startProgress turn) (ended none (next startSettings startState turn))
-unfolding recording runFrom onRead
+run : runOf givenBytes ≡ lineThen (lineOf startSettings startProgress turn) (ended none (next startSettings startState turn))
+unfolding runOf runFrom onRead
 run = rw (given-case, nothing-is-end) refl
 
 line-of : textOfLine (lineOf startSettings startProgress turn) ≡ lineText 1 0 0
@@ -58,7 +58,7 @@ unfolding lineText decimalIn
 characters = refl
 
 -- the single line "1 0 0" and a line end
-pub the-given-case : textOf (recording givenBytes) ≡ 49 ∷ 32 ∷ 48 ∷ 32 ∷ 48 ∷ 10 ∷ []
+pub the-given-case : textOf (runOf givenBytes) ≡ 49 ∷ 32 ∷ 48 ∷ 32 ∷ 48 ∷ 10 ∷ []
 the-given-case =
     ap textOf run
     ∙ text-behind (lineOf startSettings startProgress turn) (ended none (next startSettings startState turn))

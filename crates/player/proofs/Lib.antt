@@ -17,3 +17,5 @@ pub mod Stopping
 pub mod Pieces
 -- The case that 02 gives
 pub mod GivenCase
+-- A run, computed
+pub mod Rows

@@ -23,7 +23,7 @@ use Rattle.trace.proofs.Front.{size-within, store-size, remark-within, decided,
 use Rattle.player.specs.declared.Status.{Status}
 use Rattle.player.specs.declared.Status.the-variants.{Passed, More, Ended, Room, Limit}
 use Rattle.player.specs.Text.{badText}
-use Rattle.player.specs.Run.{Progress, turnOf, bufferOf, afterRequest, afterOther, lineOf, Run, behind, onRead, runFrom, textOfLines, textOf}
+use Rattle.player.specs.Run.{Progress, turnOf, bufferOf, afterRequest, afterOther, lineOf, Run, lineThen, onRead, runFrom, textOfLines, textOf}
 use Rattle.player.specs.Play.{Left, left, requestPlayed, badPlayed, readPlayed, ordinalsUsed, recordPlayed, passes, then, played}
 use Rattle.player.specs.Parts.{textFrom, stateFrom, isEnded, textAfter, stateAfter, FrontOfRun, PlayIsRun}
 use Rattle.player.proofs.Runs.{run-begins, text-behind}
@@ -55,11 +55,11 @@ module _ (s : Settings) (last : Bool) (p : Progress) (bytes t : List ℕ) (nothi
 
   request-begins : (n : ℕ) (r : Request) (size : ℕ) → readOf bytes ≡ ARequest n r size
       → runFrom (length (bytes ++ t)) s p (bytes ++ t)
-      ≡ behind (lineOf s p (turnOf n r bytes size))
+      ≡ lineThen (lineOf s p (turnOf n r bytes size))
       (runFrom (length (drop size bytes ++ t)) s (afterRequest s p (turnOf n r bytes size)) (drop size bytes ++ t))
   unfolding onRead
   request-begins n r size e =
-      let run : Turn → List ℕ → Run = λ u b. behind (lineOf s p u) (runFrom (length b) s (afterRequest s p u) b) in
+      let run : Turn → List ℕ → Run = λ u b. lineThen (lineOf s p u) (runFrom (length b) s (afterRequest s p u) b) in
       begins (ARequest n r size) (stable-request bytes t n r size e)
       ∙ ap (λ u. run u (drop size (bytes ++ t))) (turn-stays bytes t n r size e)
       ∙ ap (run (turnOf n r bytes size)) (drop-append-le size bytes t (size-within bytes n r size e .1))

@@ -1,33 +1,18 @@
 -- A recording fed in pieces is played as the whole, whatever the pieces and the rooms are: by the calls, one after the other. Assumes nothing.
-use Prim.Native.Nat.{ℕ, zero, suc, _+_, _-_, _≤_}
-use native.Mathlib.Omega.{arith}
+use Prim.Native.Nat.{ℕ, _+_, _≤_}
 use mathlib.Core.Path.{_≡_, refl, sym, ap, _∙_, subst}
 use mathlib.Core.Bool.{Bool, true, false, cond}
 use mathlib.Core.List.{List, [], _∷_, _++_, append-assoc, append-nil}
-use lib.ListN.{length, drop, length-drop}
+use lib.ListN.{length, drop}
 use lib.Seq.{drop-append-le}
 use Rattle.machine.specs.declared.Settings.{Settings}
 use Rattle.player.specs.declared.Status.{Status}
 use Rattle.player.specs.declared.Status.the-variants.{Ended}
-use Rattle.player.specs.Run.{Progress, startSettings, startProgress, textOf, recording}
-use Rattle.player.specs.Play.{Left, recordPlayed, passes, then, played}
+use Rattle.player.specs.Run.{Progress, startSettings, startProgress, textOf, runOf}
+use Rattle.player.specs.Play.{Left, then, played}
 use Rattle.player.specs.Parts.{textFrom, stateFrom, isEnded, textAfter, stateAfter, FrontOfRun, Call, joined, LastIsLast, fed, AnyPieces}
-use Rattle.player.proofs.Playing.{record-fits}
+use Rattle.player.proofs.Playing.{play-fits}
 use Rattle.player.proofs.Parts.{then-front, play-is-run}
-
--- what a call reads lies within the bytes
-chosen-fits : (o next : Left) (bytes : List ℕ) (b : Bool) → o .read ≤ length bytes → next .read ≤ length (drop (o .read) bytes)
-    → cond b (then o next) o .read ≤ length bytes
-chosen-fits o next bytes true h k = omega (arith, h, k, length-drop (o .read) bytes)
-chosen-fits o next bytes false h k = h
-
-play-fits : (n : ℕ) (s : Settings) (last : Bool) (room : ℕ) (p : Progress) (bytes : List ℕ) → played n s last room p bytes .read ≤ length bytes
-unfolding played
-play-fits zero s last room p bytes = omega arith
-play-fits (suc n) s last room p bytes =
-    let o : Left = recordPlayed s last room p bytes in
-    chosen-fits o (played n s last (room - length (o .text)) (o .progress) (drop (o .read) bytes)) bytes (passes (o .status))
-    (record-fits s last room p bytes) (play-fits n s last (room - length (o .text)) (o .progress) (drop (o .read) bytes))
 
 -- the bytes that follow counted among the bytes
 all-bytes : (s : Settings) (p : Progress) (bytes t : List ℕ) (o : Left) → o .read ≤ length bytes → FrontOfRun s p bytes t o
@@ -81,16 +66,16 @@ module _ (calls : List Call) (l : LastIsLast calls) (e : fed startSettings start
   whole : joined calls ++ [] ≡ joined calls
   whole = append-nil (joined calls)
 
-  pub pieces-write-the-recording : all .text ≡ textOf (recording (joined calls))
-  unfolding recording
+  pub pieces-write-the-recording : all .text ≡ textOf (runOf (joined calls))
+  unfolding runOf
   pieces-write-the-recording =
       sym (append-nil (all .text))
       ∙ ap (λ (b : Bool). all .text ++ cond b [] (textFrom startSettings (all .progress) (drop (all .read) (joined calls) ++ []))) (sym ended)
       ∙ sym (front .text)
       ∙ ap (λ (b : List ℕ). textFrom startSettings startProgress b) whole
 
-  pub pieces-leave-its-state : all .progress .state ≡ recording (joined calls) .state
-  unfolding recording
+  pub pieces-leave-its-state : all .progress .state ≡ runOf (joined calls) .state
+  unfolding runOf
   pieces-leave-its-state =
       ap (λ (b : Bool). cond b (all .progress .state) (stateFrom startSettings (all .progress) (drop (all .read) (joined calls) ++ []))) (sym ended)
       ∙ sym (front .state)

@@ -47,6 +47,20 @@ record-fits s last room p bytes =
     pick (length bytes) (ltb room 64) (left [] p 0 Room) second (omega arith)
     (pick (length bytes) (ordinalsUsed p) (left [] p 0 Limit) third (omega arith) (read-fits s last p bytes (readOf bytes) refl))
 
+-- what a call reads lies within the bytes
+chosen-fits : (o next : Left) (bytes : List ℕ) (b : Bool) → o .read ≤ length bytes → next .read ≤ length (drop (o .read) bytes)
+    → cond b (then o next) o .read ≤ length bytes
+chosen-fits o next bytes true h k = omega (arith, h, k, length-drop (o .read) bytes)
+chosen-fits o next bytes false h k = h
+
+pub play-fits : (n : ℕ) (s : Settings) (last : Bool) (room : ℕ) (p : Progress) (bytes : List ℕ) → played n s last room p bytes .read ≤ length bytes
+unfolding played
+play-fits zero s last room p bytes = omega arith
+play-fits (suc n) s last room p bytes =
+    let o : Left = recordPlayed s last room p bytes in
+    chosen-fits o (played n s last (room - length (o .text)) (o .progress) (drop (o .read) bytes)) bytes (passes (o .status))
+    (record-fits s last room p bytes) (play-fits n s last (room - length (o .text)) (o .progress) (drop (o .read) bytes))
+
 -- a text over the rest of an output that has a text in front
 over-behind : (d t u output : List ℕ) (w : ℕ) → output ≡ over t d → w ≡ length t → t ++ over u (drop w output) ≡ over (t ++ u) d
 unfolding over

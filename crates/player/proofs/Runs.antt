@@ -10,7 +10,7 @@ use Rattle.trace.specs.declared.Read.{Read}
 use Rattle.trace.specs.declared.Read.the-variants.{Request as ARequest, Remark, Bad, End}
 use Rattle.trace.specs.Trace.{readOf}
 use Rattle.trace.proofs.Front.{nothing-is-end, size-within, remark-within}
-use Rattle.player.specs.Run.{Progress, turnOf, afterRequest, afterOther, Line, lineOf, Run, behind, onRead, runFrom, recording}
+use Rattle.player.specs.Run.{Progress, turnOf, afterRequest, afterOther, Line, lineOf, Run, lineThen, onRead, runFrom, runOf}
 use Rattle.player.specs.Run.{startProgress, startSettings, textOfLine, textOfLines, textOf}
 
 -- what a record adds depends on the run of fewer bytes only
@@ -19,7 +19,7 @@ module _ (s : Settings) (p : Progress) (bytes : List ℕ) (f g : Progress → Li
   pub on-rest : (found : Read) → readOf bytes ≡ found → onRead found s p bytes f ≡ onRead found s p bytes g
   unfolding onRead
   on-rest (ARequest n r size) e =
-      ap (behind (lineOf s p (turnOf n r bytes size)))
+      ap (lineThen (lineOf s p (turnOf n r bytes size)))
       (same (afterRequest s p (turnOf n r bytes size)) (drop size bytes) (omega (arith, length-drop size bytes, size-within bytes n r size e)))
   on-rest (Remark size) e = same (afterOther p) (drop size bytes) (omega (arith, length-drop size bytes, remark-within bytes size e))
   on-rest Bad e = refl
@@ -47,7 +47,7 @@ run-begins s p [] = rw nothing-is-end refl
 run-begins s p (x ∷ xs) =
     on-rest s p (x ∷ xs) (runFrom (length xs) s) (λ q b. runFrom (length b) s q b) (λ q b l. fuel (length xs) s q b (omega arith)) (readOf (x ∷ xs)) refl
 
-pub text-behind : (l : Line) (r : Run) → textOf (behind l r) ≡ textOfLine l ++ textOf r
+pub text-behind : (l : Line) (r : Run) → textOf (lineThen l r) ≡ textOfLine l ++ textOf r
 unfolding textOf textOfLines
 text-behind l r = append-assoc (textOfLine l) (textOfLines (r .lines)) _
 
@@ -78,6 +78,6 @@ counted-from zero s p bytes = refl
 counted-from (suc n) s p bytes = on-counted s p bytes (runFrom n s) (λ q b. counted-from n s q b) (readOf bytes)
 
 -- the lines of a recording carry 1, 2, 3 and so on
-pub recording-counted : (bytes : List ℕ) → ordinals (recording bytes) ≡ countedFrom 1 (length (recording bytes .lines))
-unfolding recording
+pub recording-counted : (bytes : List ℕ) → ordinals (runOf bytes) ≡ countedFrom 1 (length (runOf bytes .lines))
+unfolding runOf
 recording-counted bytes = counted-from (length bytes) startSettings startProgress bytes

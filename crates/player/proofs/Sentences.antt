@@ -15,7 +15,7 @@ use Rattle.trace.specs.declared.Read.{Read}
 use Rattle.trace.specs.declared.Read.the-variants.{Request as ARequest, Remark, Bad, End}
 use Rattle.trace.specs.Trace.{readOf}
 use Rattle.player.specs.Run.{Progress, progress, startSettings, startState, turnOf, afterRequest, afterOther, lineOf}
-use Rattle.player.specs.Run.{Run, ended, behind, onRead, runFrom}
+use Rattle.player.specs.Run.{Run, ended, lineThen, onRead, runFrom}
 use Rattle.player.proofs.Runs.{run-begins}
 
 module _ (s : Settings) (p : Progress) (bytes : List ℕ) where
@@ -29,7 +29,7 @@ module _ (s : Settings) (p : Progress) (bytes : List ℕ) where
   -- the player acts on a request: its line comes first, and the rest goes on from the step
   pub request-is-acted-on : (n : ℕ) (r : Request) (size : ℕ) → readOf bytes ≡ ARequest n r size
       → whole p bytes
-      ≡ behind (lineOf s p (turnOf n r bytes size)) (whole (afterRequest s p (turnOf n r bytes size)) (drop size bytes))
+      ≡ lineThen (lineOf s p (turnOf n r bytes size)) (whole (afterRequest s p (turnOf n r bytes size)) (drop size bytes))
   unfolding onRead
   request-is-acted-on n r size e = begins (ARequest n r size) e
 
@@ -90,12 +90,12 @@ refused m t (a, b) h =
 pub number-over-1-gets-65 : (p : Progress) (bytes : List ℕ) (n : ℕ) (r : Request) (size : ℕ) → Lengths (p .state) → 2 ≤ n
     → readOf bytes ≡ ARequest n r size
     → runFrom (length bytes) startSettings p bytes
-    ≡ behind (record { ordinal = p .requests + 1; number = 65; place = 0 })
+    ≡ lineThen (record { ordinal = p .requests + 1; number = 65; place = 0 })
     (runFrom (length (drop size bytes)) startSettings (progress (p .state) (p .requests + 1) (p .records + 1)) (drop size bytes))
 number-over-1-gets-65 p bytes n r size l h e =
     request-is-acted-on startSettings p bytes n r size e
     ∙ ap
-    (λ (o : PairOutcome). behind (record { ordinal = p .requests + 1; number = o .answer .number; place = o .answer .place })
+    (λ (o : PairOutcome). lineThen (record { ordinal = p .requests + 1; number = o .answer .number; place = o .answer .place })
     (runFrom (length (drop size bytes)) startSettings
     (progress (record { storage = o .storage; keys = o .keys; processors = o .processors }) (p .requests + 1) (p .records + 1)) (drop size bytes)))
     (refused (p .state) (turnOf n r bytes size) l h)

@@ -1,4 +1,4 @@
--- The player of recordings (02, W1): the lines as bytes, the run of a recording, what the routines leave of a recording in parts, and the claim
+-- The player of recordings (02, W1): the lines as bytes, the run of a recording, what the routines leave of a recording in pieces, and the claim
 -- that they play the run.
 pub mod Text
 pub mod Run

@@ -1,4 +1,4 @@
--- A recording that comes in parts: the calls of `play` on them, and the claim that they play the run of the whole recording, whatever the parts are.
+-- A recording that comes in pieces: the calls of `play` on them, and the claim that they play the run of the whole recording, whatever the pieces are.
 use Prim.Native.Nat.{ℕ, _+_, _-_, _<_}
 use mathlib.Core.Path.{_≡_}
 use mathlib.Core.Bool.{Bool, true, false, cond}

@@ -1,4 +1,4 @@
--- What the player's routines leave when a recording comes in parts: for one record, and for record after record.
+-- What the player's routines leave when a recording comes in pieces: for one record, and for record after record.
 use Prim.Native.Nat.{ℕ, zero, suc, _+_, _-_}
 use mathlib.Core.Bool.{Bool, true, false, cond, _||_}
 use mathlib.Core.List.{List, [], _++_}
@@ -15,11 +15,11 @@ use Rattle.player.specs.declared.Status.{Status}
 use Rattle.player.specs.declared.Status.the-variants.{Passed, More, Ended, Room, Limit}
 use Rattle.player.specs.declared.Played.{Played}
 use Rattle.player.specs.Text.{over, badText}
-use Rattle.player.specs.Run.{Progress, progress, startRecords, turnOf, afterRequest, afterOther, lineOf, textOfLine}
+use Rattle.player.specs.Run.{Progress, progress, startProcessors, turnOf, afterRequest, afterOther, lineOf, textOfLine}
 
 -- the player at the start of a run
 abbrev pub startPlayer : Player
-startPlayer = record { processors = startRecords; requests = 0; records = 0 }
+startPlayer = record { processors = startProcessors; requests = 0; records = 0 }
 
 -- a pair of records, storage and keys as a state, and how far the run of a player is over such storage and keys
 abbrev pub stateOf : List Processor → (storage keys : List ℕ) → State
@@ -28,7 +28,7 @@ stateOf ps storage keys = record { storage = storage; keys = keys; processors = 
 abbrev pub progressOf : Player → (storage keys : List ℕ) → Progress
 progressOf p storage keys = progress (stateOf (p .processors) storage keys) (p .requests) (p .records)
 
--- what a part of a recording leaves: the text written, how far the run then is, the count of bytes read, and how it stopped
+-- what a piece of a recording leaves: the text written, how far the run then is, the count of bytes read, and how it stopped
 pub record Left : Type 0 where
   pub text : List ℕ
   pub progress : Progress

@@ -28,15 +28,15 @@ progress m requests records = record { state = m; requests = requests; records =
 abbrev pub startSettings : Settings
 startSettings = record { «four_k» = false; extensions = true }
 
-abbrev pub startRecord : Processor
-startRecord =
+abbrev pub startProcessor : Processor
+startProcessor =
     record { «psw_key» = 0; problem = false; «low_protection» = false; «key_control» = false; prefix = 0; code = 0 }
 
-abbrev pub startRecords : List Processor
-startRecords = startRecord ∷ startRecord ∷ []
+abbrev pub startProcessors : List Processor
+startProcessors = startProcessor ∷ startProcessor ∷ []
 
 unfoldable pub startState : State
-startState = record { storage = replicate 65536 0; keys = replicate 32 0; processors = startRecords }
+startState = record { storage = replicate 65536 0; keys = replicate 32 0; processors = startProcessors }
 
 abbrev pub startProgress : Progress
 startProgress = progress startState 0 0
@@ -80,13 +80,13 @@ pub record Run : Type 0 where
 abbrev pub ended : Option ℕ → State → Run
 ended bad m = record { lines = []; bad = bad; state = m }
 
-abbrev pub behind : Line → Run → Run
-behind l r = record { lines = l ∷ r .lines; bad = r .bad; state = r .state }
+abbrev pub lineThen : Line → Run → Run
+lineThen l r = record { lines = l ∷ r .lines; bad = r .bad; state = r .state }
 
 -- what the record in front of the bytes adds to the run of the rest
 unfoldable pub onRead : Read → Settings → Progress → List ℕ → (Progress → List ℕ → Run) → Run
 onRead (ARequest n r size) s p bytes rest =
-    behind (lineOf s p (turnOf n r bytes size)) (rest (afterRequest s p (turnOf n r bytes size)) (drop size bytes))
+    lineThen (lineOf s p (turnOf n r bytes size)) (rest (afterRequest s p (turnOf n r bytes size)) (drop size bytes))
 onRead (Remark size) s p bytes rest = rest (afterOther p) (drop size bytes)
 onRead Bad s p bytes rest = ended (some (p .records + 1)) (p .state)
 onRead End s p bytes rest = ended none (p .state)
@@ -97,8 +97,8 @@ runFrom zero s p bytes = ended none (p .state)
 runFrom (suc n) s p bytes = onRead (readOf bytes) s p bytes (runFrom n s)
 
 -- the run of a recording: it has no more records than bytes
-unfoldable pub recording : List ℕ → Run
-recording bytes = runFrom (length bytes) startSettings startProgress bytes
+unfoldable pub runOf : List ℕ → Run
+runOf bytes = runFrom (length bytes) startSettings startProgress bytes
 
 -- what a run writes: its lines, then that of the bad record
 abbrev pub textOfLine : Line → List ℕ

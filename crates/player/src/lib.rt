@@ -1,5 +1,5 @@
 // The player of recordings: requests are given to the storage unit one after the other, and each is answered by a line. A recording comes in
-// parts, and what a run is at between them is a value. The settings, storage and keys are the caller's.
+// pieces, and between them how far the run is, is a value. The settings, storage and keys are the caller's.
 mod perform;
 mod text;
 
@@ -14,7 +14,7 @@ ghost use mathlib.Core.Path.{_≡_};
 ghost use mathlib.Core.Bool.{false};
 ghost use mathlib.Core.List.{List, []};
 ghost use lib.ListN.{length};
-ghost use Rattle.player.specs.Run.{startRecord, afterOther};
+ghost use Rattle.player.specs.Run.{startProcessor, afterOther};
 ghost use Rattle.player.specs.Play.{startPlayer, progressOf, left, badPlayed, endPlayed, isRequest, readPlayed};
 ghost use Rattle.player.specs.Play.{recordPlayed, passes, played as recordsPlayed, playOutcome, playOutcomeOf};
 
@@ -29,7 +29,7 @@ pub struct Player {
 pub enum Status {
     // A record was read and passed; another may follow.
     Passed,
-    // What is left is not a whole record yet: more bytes are needed.
+    // What is left is not a whole record, or too few bytes to tell that it is bad: more bytes are needed.
     More,
     // The run is ended, by a bad record or at the end of the recording.
     Ended,
@@ -58,7 +58,7 @@ const ORDINAL_MAXIMUM: u64 = 18446744073709551615;
 
 // A record that is zero, in supervisor state.
 fn zero_record() -> Processor
-    ensures { λ r. ⌜ r ≡ startRecord ⌝ }
+    ensures { λ r. ⌜ r ≡ startProcessor ⌝ }
 {
     Processor {
         psw_key: 0,

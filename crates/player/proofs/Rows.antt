@@ -50,7 +50,16 @@ abbrev fetch-bytes : List ℕ
 fetch-bytes = 9 ∷ 0 ∷ 1 ∷ 0 ∷ 0 ∷ 0 ∷ 0 ∷ 0 ∷ 0 ∷ 1 ∷ 0 ∷ []
 
 abbrev bytes : List ℕ
-bytes = remark-bytes ++ store-bytes ++ set-prefix-bytes ++ store-prefixed-bytes ++ rrb-bytes ++ fetch-outside-bytes ++ fetch-of-processor-2-bytes ++ bad-bytes ++ fetch-bytes
+bytes =
+    remark-bytes
+    ++ store-bytes
+    ++ set-prefix-bytes
+    ++ store-prefixed-bytes
+    ++ rrb-bytes
+    ++ fetch-outside-bytes
+    ++ fetch-of-processor-2-bytes
+    ++ bad-bytes
+    ++ fetch-bytes
 
 abbrev run : Run
 run =

@@ -26,16 +26,20 @@ slice-reshare-prefix-write-all c =
     let call = c .before .before .before .before .before .before .before in
     let came = call .before .before .before .before .before .before .before .before in
     let start = came .before .before .before .before .before .before in
-    let within = writes-within _ _ _ _ (take (came .fill .result) (came .fill .last .0)) (start .args .output .now) _ _ _ _ (call .play .ensures) (call .play .kept .1 .1 .1 .1 .1 .1 .0) in
-    omega (arith, within, call .play .kept .1 .1 .1 .1 .1 .1 .0)
+    let bytes = take (came .fill .result) (came .fill .last .0) in
+    let output-kept = call .play .kept .1 .1 .1 .1 .1 .1 .0 in
+    let within = writes-within _ _ _ _ bytes (start .args .output .now) _ _ _ _ (call .play .ensures) output-kept in
+    omega (arith, within, output-kept)
 
 slice-aggregate-write-all : tie.Need-slice-aggregate-write-all
 slice-aggregate-write-all c =
     let call = c .before .before .before .before .before .before .before .before in
     let came = call .before .before .before .before .before .before .before .before in
     let start = came .before .before .before .before .before .before in
-    let within = writes-within _ _ _ _ (take (came .fill .result) (came .fill .last .0)) (start .args .output .now) _ _ _ _ (call .play .ensures) (call .play .kept .1 .1 .1 .1 .1 .1 .0) in
-    simp length-take (omega (arith, within, call .play .kept .1 .1 .1 .1 .1 .1 .0))
+    let bytes = take (came .fill .result) (came .fill .last .0) in
+    let output-kept = call .play .kept .1 .1 .1 .1 .1 .1 .0 in
+    let within = writes-within _ _ _ _ bytes (start .args .output .now) _ _ _ _ (call .play .ensures) output-kept in
+    simp length-take (omega (arith, within, output-kept))
 
 write-all-requires : tie.Need-write-all-requires
 write-all-requires c κs = search needs
@@ -45,7 +49,8 @@ keep-requires c κs =
     let call = c .before .before .before .before .before .before .before .before .before .before in
     let came = call .before .before .before .before .before .before .before .before in
     let start = came .before .before .before .before .before .before in
-    let within = reads-within _ _ _ _ (take (came .fill .result) (came .fill .last .0)) (start .args .output .now) _ _ _ _ (call .play .ensures) in
+    let bytes = take (came .fill .result) (came .fill .last .0) in
+    let within = reads-within _ _ _ _ bytes (start .args .output .now) _ _ _ _ (call .play .ensures) in
     (omega (arith, simp length-take at within, came .fill .ensures), omega (arith, came .fill .ensures))
 
 is-ended-requires : tie.Need-is-ended-requires

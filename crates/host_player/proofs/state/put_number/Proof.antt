@@ -17,7 +17,10 @@ abbrev μ-loop : tie.MeasureT-loop
 μ-loop bytes₀ n at value i₀ rest₀ bytes i rest = n - i
 
 loop-holds : tie.Need-loop-holds Inv-loop μ-loop
-loop-holds c = (omega arith, paste-zero (c .args .bytes .now) (c .args .at) (littleBytes (c .args .n) (c .args .value)), nothing-yet (c .args .n) (c .args .value), refl)
+loop-holds c =
+    let n = c .args .n in
+    let value = c .args .value in
+    (omega arith, paste-zero (c .args .bytes .now) (c .args .at) (littleBytes n value), nothing-yet n value, refl)
 
 cast-bytes : tie.Need-cast-bytes Inv-loop μ-loop
 cast-bytes c = omega arith

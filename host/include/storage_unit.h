@@ -318,9 +318,11 @@ uint64_t storage_unit_store(uint32_t settings,
  * STORAGE_UNIT_PLAY_MORE     Put the unread rest of the piece, which is under 514 bytes, in front
  *                            of the next bytes, and call again.
  * STORAGE_UNIT_PLAY_ENDED    The run is at its end. Behind a bad record nothing is played; its
- *                            line is the last.
+ *                            line is the last. It counts among the records, and `read` stops in
+ *                            front of it. The player does not remember the end: call no more.
  * STORAGE_UNIT_PLAY_ROOM     Take the lines from the output and call again with the unread rest of
  *                            the piece, and with at least 64 bytes of output. Nothing is lost.
+ *                            This is tested first, also where nothing is left to be played.
  * STORAGE_UNIT_PLAY_LIMIT    The requests or the records can be counted no further.
  * STORAGE_UNIT_PLAY_REFUSED  Nothing has changed, not even the player.
  *

@@ -17,9 +17,9 @@ const PLAYER_LENGTH: usize = 48;
 const REFUSED: u32 = 4;
 
 // Plays a piece of a recording. `settings`: 1 the 4K facility, 2 the extensions. `player`: 48 bytes, the records of both processors, then
-// requests and records so far, and what this call has read of the piece and written to the output, eight bytes each. `last`: not 0 where
-// nothing comes behind the piece. The result: 0 more bytes are needed, 1 the run is ended, 2 the output has under 64 bytes left, 3 the ordinals
-// are used up, 4 the call is refused.
+// requests and records so far, and what the call has read of the piece and written to the output, eight bytes each; zeros at the start. `piece`
+// begins with the bytes that the call before has not read. `last`: not 0 where nothing comes behind the piece. The result: 0 more bytes are
+// needed, 1 the run is ended, 2 the output has under 64 bytes left, 3 the ordinals are used up, 4 the call is refused.
 #[no_mangle]
 pub extern "C" fn storage_unit_play(
     settings: u32,

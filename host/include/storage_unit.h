@@ -312,8 +312,9 @@ uint64_t storage_unit_store(uint32_t settings,
  * last           Not 0: nothing comes behind the piece.
  * output         Room for the lines, which the call puts at its start.
  *
- * Each record is played as soon as it is whole. A record that is not, and one that is bad, wait for
- * more bytes, unless the piece is the last or has 514 bytes from there on. Returns
+ * Each record is played, or ends the run as bad, as soon as all that its length counts is there; a
+ * length over 512 ends it at once. A record that is not whole waits for more bytes, unless the piece
+ * is the last. Returns
  *
  * STORAGE_UNIT_PLAY_MORE     Put the unread rest of the piece, which is under 514 bytes, in front
  *                            of the next bytes, and call again.

@@ -6,7 +6,6 @@ use mathlib.Core.Bool.{Bool, true, false, _||_}
 use mathlib.Core.List.{List, [], _∷_}
 use mathlib.Core.Logic.{⊎-elim}
 use lib.ListN.{length}
-use lib.Dec.{leb}
 use types.Run.{OneOf}
 use denote.Enum.Declared.{tagOf}
 use Rattle.machine.specs.declared.Settings.{Settings}
@@ -20,7 +19,7 @@ use Rattle.player.specs.declared.Played.{Played}
 use Rattle.player.specs.declared.Status.the-variants.{Passed, Ended, More}
 use Rattle.player.specs.Text.{over, badText}
 use Rattle.player.specs.Run.{Progress, afterOther}
-use Rattle.player.specs.Play.{progressOf, left, badPlayed, endPlayed, isRequest, readPlayed, playOutcome, playOutcomeOf}
+use Rattle.player.specs.Play.{progressOf, left, judged, badPlayed, endPlayed, isRequest, readPlayed, playOutcome, playOutcomeOf}
 
 none-is-0 : OneOf (1 ∷ 2 ∷ 3 ∷ []) 0 → ⊥
 none-is-0 = ⊎-elim (λ e. omega arith) (⊎-elim (λ e. omega arith) (λ e. omega arith))
@@ -35,7 +34,7 @@ pub request-told : (found : Read) (n : ℕ) (r : Request) (size : ℕ) → isReq
 request-told found n r size h e = not-both (ap (λ (x : Read). isRequest x) e) h
 
 module _ (p : Player) (bytes : List ℕ) (last : Bool) (output : List ℕ) where
-  pub bad-decided : (p' : Player) (written : ℕ) (output' : List ℕ) → (last || leb 514 (length bytes)) ≡ true
+  pub bad-decided : (p' : Player) (written : ℕ) (output' : List ℕ) → (last || judged bytes) ≡ true
       → ((storage keys : List ℕ) → progressOf p' storage keys ≡ afterOther (progressOf p storage keys))
       → (written ≡ length (badText (p' .records))) × (output' ≡ over (badText (p' .records)) output)
       → (storage keys : List ℕ) → playOutcome (record { player = p'; read = 0; written = written; status = Ended }) storage keys output'
@@ -53,7 +52,7 @@ module _ (p : Player) (bytes : List ℕ) (last : Bool) (output : List ℕ) where
       })
       (counted storage keys))
 
-  pub bad-undecided : (r : Played) → (last || leb 514 (length bytes)) ≡ false
+  pub bad-undecided : (r : Played) → (last || judged bytes) ≡ false
       → ((storage keys output : List ℕ) → playOutcome r storage keys output ≡ playOutcomeOf (left [] (progressOf p storage keys) 0 More) output)
       → (storage keys : List ℕ) → playOutcome r storage keys output ≡ playOutcomeOf (badPlayed last (progressOf p storage keys) bytes) output
   unfolding badPlayed

@@ -10,6 +10,7 @@ pub mod Records
 -- Record after record
 pub mod Playing
 -- The run of a recording, and that the routines play it
+pub mod Judged
 pub mod Runs
 pub mod Sentences
 pub mod Parts

@@ -1,5 +1,5 @@
 -- A recording that comes in parts is played as the whole: what a call writes is the front of what the run writes, and the rest of the run goes
--- on from what it leaves. A record that was read stays the same whatever bytes follow, and 514 bytes decide that one is bad.
+-- on from what it leaves. A record that was read, or that can be judged, stays the same whatever bytes follow.
 -- Assumes nothing.
 use Prim.Native.Nat.{ℕ, zero, suc, _+_, _-_}
 use native.Mathlib.Omega.{arith}
@@ -8,8 +8,7 @@ use mathlib.Core.Bool.{Bool, true, false, cond, _||_}
 use mathlib.Core.List.{List, [], _++_, append-assoc, append-nil}
 use lib.ListN.{length, drop, length-drop}
 use lib.Seq.{drop-drop, drop-append-le, take-append-le}
-use lib.Dec.{leb, ltb}
-use borrow.Author.Tests.{leb-true}
+use lib.Dec.{ltb}
 use Rattle.machine.specs.declared.Settings.{Settings}
 use Rattle.machine.specs.declared.Request.{Request}
 use Rattle.machine.specs.declared.Request.the-variants.{Access, Key, Prefix}
@@ -19,13 +18,14 @@ use Rattle.machine.proofs.Verdicts.{not-both}
 use Rattle.trace.specs.declared.Read.{Read}
 use Rattle.trace.specs.declared.Read.the-variants.{Request as ARequest, Remark, Bad, End}
 use Rattle.trace.specs.Trace.{readOf}
-use Rattle.trace.proofs.Front.{size-within, store-size, remark-within, decided, stable-request, stable-remark}
+use Rattle.trace.proofs.Front.{size-within, store-size, remark-within, stable-request, stable-remark}
 use Rattle.player.specs.declared.Status.{Status}
 use Rattle.player.specs.declared.Status.the-variants.{Passed, More, Ended, Room, Limit}
 use Rattle.player.specs.Text.{badText}
 use Rattle.player.specs.Run.{Progress, turnOf, bufferOf, afterRequest, afterOther, lineOf, Run, lineThen, onRead, runFrom, textOfLines, textOf}
-use Rattle.player.specs.Play.{Left, left, requestPlayed, badPlayed, readPlayed, ordinalsUsed, recordPlayed, passes, then, played}
+use Rattle.player.specs.Play.{Left, left, requestPlayed, judged, badPlayed, readPlayed, ordinalsUsed, recordPlayed, passes, then, played}
 use Rattle.player.specs.Parts.{textFrom, stateFrom, isEnded, textAfter, stateAfter, FrontOfRun, PlayIsRun}
+use Rattle.player.proofs.Judged.{judged-stays}
 use Rattle.player.proofs.Runs.{run-begins, text-behind}
 
 -- the bytes that follow change nothing in the turn of a request
@@ -85,16 +85,16 @@ module _ (s : Settings) (last : Bool) (p : Progress) (bytes t : List ℕ) (nothi
   all-here : last ≡ true → bytes ++ t ≡ bytes
   all-here l = ap (λ (b : List ℕ). bytes ++ b) (nothing-behind l) ∙ append-nil bytes
 
-  is-bad : readOf bytes ≡ Bad → (l d : Bool) → last ≡ l → leb 514 (length bytes) ≡ d → (l || d) ≡ true → readOf (bytes ++ t) ≡ Bad
+  is-bad : readOf bytes ≡ Bad → (l d : Bool) → last ≡ l → judged bytes ≡ d → (l || d) ≡ true → readOf (bytes ++ t) ≡ Bad
   is-bad e true d l k h = ap readOf (all-here l) ∙ e
-  is-bad e false true l k h = decided bytes t (leb-true 514 (length bytes) k) ∙ e
+  is-bad e false true l k h = judged-stays bytes t k ∙ e
   is-bad e false false l k h = absurd (not-both h refl)
 
-  bad-front : readOf bytes ≡ Bad → (b : Bool) → (last || leb 514 (length bytes)) ≡ b
+  bad-front : readOf bytes ≡ Bad → (b : Bool) → (last || judged bytes) ≡ b
       → Front (cond b (left (badText (p .records + 1)) (afterOther p) 0 Ended) (left [] p 0 More))
   unfolding onRead textOf textOfLines
   bad-front e true h =
-      let run = begins Bad (is-bad e last (leb 514 (length bytes)) refl refl h) in
+      let run = begins Bad (is-bad e last (judged bytes) refl refl h) in
       record { text = ap textOf run ∙ sym (append-nil (badText (p .records + 1))); state = ap (λ (x : Run). x .state) run }
   bad-front e false h = record { text = refl; state = refl }
 
@@ -109,7 +109,7 @@ module _ (s : Settings) (last : Bool) (p : Progress) (bytes t : List ℕ) (nothi
   unfolding readPlayed badPlayed
   read-front (ARequest n r size) e = request-front n r size e
   read-front (Remark size) e = remark-front size e
-  read-front Bad e = bad-front e (last || leb 514 (length bytes)) refl
+  read-front Bad e = bad-front e (last || judged bytes) refl
   read-front End e = end-front e last refl
 
   tested-front : (full used : Bool)

@@ -8,7 +8,7 @@ use mathlib.Core.Bool.{Bool, true, false, cond, _||_}
 use mathlib.Core.List.{List, [], _++_, append-assoc, append-nil}
 use lib.ListN.{length, take, drop, length-append, length-take, length-drop, drop-of-length-le}
 use lib.Seq.{take-at, drop-at, take-all, drop-drop}
-use lib.Dec.{leb, ltb}
+use lib.Dec.{ltb}
 use Rattle.machine.specs.declared.Settings.{Settings}
 use Rattle.trace.specs.declared.Read.{Read}
 use Rattle.trace.specs.declared.Read.the-variants.{Request as ARequest, Remark, Bad, End}
@@ -20,7 +20,7 @@ use Rattle.player.specs.declared.Status.{Status}
 use Rattle.player.specs.declared.Status.the-variants.{Passed, More, Ended, Room, Limit}
 use Rattle.player.specs.Text.{over, badText}
 use Rattle.player.specs.Run.{Progress, afterOther}
-use Rattle.player.specs.Play.{progressOf, Left, left, requestPlayed, badPlayed, readPlayed, ordinalsUsed, recordPlayed, passes, then, played}
+use Rattle.player.specs.Play.{progressOf, Left, left, requestPlayed, judged, badPlayed, readPlayed, ordinalsUsed, recordPlayed, passes, then, played}
 use Rattle.player.specs.Play.{PlayOutcome, playOutcome, playOutcomeOf}
 
 -- what is read lies within the bytes
@@ -34,7 +34,7 @@ unfolding readPlayed requestPlayed badPlayed
 read-fits s last p bytes (ARequest n r size) e = size-within bytes n r size e .1
 read-fits s last p bytes (Remark size) e = remark-within bytes size e .1
 read-fits s last p bytes Bad e =
-    pick (length bytes) (last || leb 514 (length bytes)) (left (badText (p .records + 1)) (afterOther p) 0 Ended) (left [] p 0 More) (omega arith)
+    pick (length bytes) (last || judged bytes) (left (badText (p .records + 1)) (afterOther p) 0 Ended) (left [] p 0 More) (omega arith)
     (omega arith)
 read-fits s last p bytes End e = omega arith
 

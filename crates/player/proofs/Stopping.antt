@@ -5,8 +5,8 @@ use mathlib.Core.Path.{_≡_, refl, ap, subst}
 use mathlib.Core.Bool.{Bool, true, false, cond, _||_}
 use mathlib.Core.List.{List, [], _++_}
 use lib.ListN.{length, drop, length-drop, length-append}
-use lib.Dec.{leb, ltb}
-use borrow.Author.Tests.{ltb-true, leb-false}
+use lib.Dec.{ltb}
+use borrow.Author.Tests.{ltb-true}
 use Rattle.machine.specs.declared.Settings.{Settings}
 use Rattle.machine.proofs.Verdicts.{not-both}
 use Rattle.trace.specs.declared.Read.{Read}
@@ -17,9 +17,10 @@ use Rattle.player.specs.declared.Status.{Status}
 use Rattle.player.specs.declared.Status.the-variants.{Passed, More, Ended, Room, Limit}
 use Rattle.player.specs.Text.{badText}
 use Rattle.player.specs.Run.{Progress, afterOther}
-use Rattle.player.specs.Play.{Left, left, requestPlayed, badPlayed, readPlayed, ordinalsUsed, recordPlayed, passes, then, played}
+use Rattle.player.specs.Play.{Left, left, requestPlayed, judged, badPlayed, readPlayed, ordinalsUsed, recordPlayed, passes, then, played}
 use Rattle.player.specs.Parts.{Stopped, WhyStopped}
 use Rattle.player.proofs.Records.{neither}
+use Rattle.player.proofs.Judged.{unjudged-short}
 use Rattle.player.proofs.Playing.{record-fits}
 
 -- the end is read of no bytes only
@@ -47,12 +48,12 @@ module _ (s : Settings) (last : Bool) (room : ℕ) (p : Progress) (bytes : List 
   abbrev Why : Left → Type 0
   Why o = Stops o last bytes room (o .status)
 
-  bad-why : (b : Bool) → (last || leb 514 (length bytes)) ≡ b
+  bad-why : (b : Bool) → (last || judged bytes) ≡ b
       → Why (cond b (left (badText (p .records + 1)) (afterOther p) 0 Ended) (left [] p 0 More))
   bad-why true e = tt
   bad-why false e =
-      let (l, k) = neither last (leb 514 (length bytes)) e in
-      (l, omega (arith, leb-false 514 (length bytes) k))
+      let (l, k) = neither last (judged bytes) e in
+      (l, omega (arith, unjudged-short bytes k))
 
   end-why : readOf bytes ≡ End → (b : Bool) → last ≡ b → Why (left [] p 0 (cond b Ended More))
   end-why e true l = tt
@@ -62,7 +63,7 @@ module _ (s : Settings) (last : Bool) (room : ℕ) (p : Progress) (bytes : List 
   unfolding readPlayed requestPlayed badPlayed
   read-why (ARequest n r size) e = omega (arith, size-within bytes n r size e)
   read-why (Remark size) e = omega (arith, remark-within bytes size e)
-  read-why Bad e = bad-why (last || leb 514 (length bytes)) refl
+  read-why Bad e = bad-why (last || judged bytes) refl
   read-why End e = end-why e last refl
 
   tested-why : (full used : Bool) → ltb room 64 ≡ full → ordinalsUsed p ≡ used

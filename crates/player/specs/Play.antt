@@ -1,12 +1,13 @@
 -- What the player's routines leave when a recording comes in pieces: for one record, and for record after record.
 use Prim.Native.Nat.{ℕ, zero, suc, _+_, _-_}
-use mathlib.Core.Bool.{Bool, true, false, cond, _||_}
+use mathlib.Core.Bool.{Bool, true, false, cond, _&&_, _||_}
 use mathlib.Core.List.{List, [], _++_}
 use lib.ListN.{length, drop}
 use lib.Dec.{eqb, leb, ltb}
 use Rattle.machine.specs.declared.Settings.{Settings}
 use Rattle.machine.specs.declared.Processor.{Processor}
 use Rattle.machine.specs.Turns.{State, Turn}
+use Rattle.house_record.specs.Little.{little}
 use Rattle.trace.specs.declared.Read.{Read}
 use Rattle.trace.specs.declared.Read.the-variants.{Request as ARequest, Remark, Bad, End}
 use Rattle.trace.specs.Trace.{readOf}
@@ -42,10 +43,14 @@ left text p read status = record { text = text; progress = p; read = read; statu
 unfoldable pub requestPlayed : Settings → Progress → Turn → ℕ → Left
 requestPlayed s p t size = left (textOfLine (lineOf s p t)) (afterRequest s p t) size Passed
 
--- a bad record. It is decided where nothing comes behind the bytes, and where they are as many as the longest record has
+-- the record in front can be judged whatever follows: its length is over 512, or all that the length counts is there
+unfoldable pub judged : List ℕ → Bool
+judged bytes = leb 2 (length bytes) && (ltb 512 (little 2 bytes 0) || leb (2 + little 2 bytes 0) (length bytes))
+
+-- a bad record. It ends the run where nothing comes behind the bytes, and where it can be judged
 unfoldable pub badPlayed : Bool → Progress → List ℕ → Left
 badPlayed last p bytes =
-    cond (last || leb 514 (length bytes)) (left (badText (p .records + 1)) (afterOther p) 0 Ended) (left [] p 0 More)
+    cond (last || judged bytes) (left (badText (p .records + 1)) (afterOther p) 0 Ended) (left [] p 0 More)
 
 -- the end of the bytes, which is that of the recording where nothing comes behind them
 abbrev pub endPlayed : Bool → Progress → Left

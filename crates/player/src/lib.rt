@@ -5,6 +5,7 @@ mod text;
 
 use crate::perform::play_request;
 use crate::text::put_bad;
+use house_record::fields::halfword;
 use machine::Processor;
 use machine::Settings;
 use trace::Read;
@@ -15,7 +16,7 @@ ghost use mathlib.Core.Bool.{false};
 ghost use mathlib.Core.List.{List, []};
 ghost use lib.ListN.{length};
 ghost use Rattle.player.specs.Run.{startProcessor, afterOther};
-ghost use Rattle.player.specs.Play.{startPlayer, progressOf, left, badPlayed, endPlayed, isRequest, readPlayed};
+ghost use Rattle.player.specs.Play.{startPlayer, progressOf, left, judged, badPlayed, endPlayed, isRequest, readPlayed};
 ghost use Rattle.player.specs.Play.{recordPlayed, passes, played as recordsPlayed, playOutcome, playOutcomeOf};
 
 // How far a run is: the pair of records, and how many requests and how many records of any kind came so far.
@@ -29,7 +30,7 @@ pub struct Player {
 pub enum Status {
     // A record was read and passed; another may follow.
     Passed,
-    // What is left is not a whole record, or too few bytes to tell that it is bad: more bytes are needed.
+    // What is left is not a whole record yet: more bytes are needed.
     More,
     // The run is ended, by a bad record or at the end of the recording.
     Ended,
@@ -50,8 +51,8 @@ pub struct Played {
 // Every line has room in so many bytes.
 const LINE_ROOM: usize = 64;
 
-// The longest record.
-const RECORD_MAXIMUM: usize = 514;
+// The greatest length that is not bad.
+const LENGTH_MAXIMUM: usize = 512;
 
 // The greatest ordinal.
 const ORDINAL_MAXIMUM: u64 = 18446744073709551615;
@@ -105,13 +106,28 @@ fn counted(player: Player) -> Player
     next
 }
 
-// A bad record: it ends the run with its line where it is decided that it is bad.
+// The record in front can be judged whatever follows: its length is over 512, or all that the length counts is there.
+fn can_be_judged(bytes: &[u8]) -> bool
+    ensures { λ r. ⌜ r ≡ judged (now (bytes .entry)) ⌝ }
+{
+    if bytes.len() < 2 {
+        return false;
+    }
+    let stated = halfword(bytes, 0) as usize;
+    if LENGTH_MAXIMUM < stated {
+        return true;
+    }
+    2 + stated <= bytes.len()
+}
+
+// A bad record: it ends the run with its line where nothing comes behind the bytes or where it can be judged.
 fn bad_record(player: Player, bytes: &[u8], last: bool, output: &mut [u8]) -> Played
     requires { ⌜ (64 ≤ length (now output)) × (player .records < 18446744073709551615) ⌝ }
     ensures { λ r. ⌜ ((storage keys : List ℕ) → playOutcome r storage keys (now (output .exit))
         ≡ playOutcomeOf (badPlayed last (progressOf player storage keys) (now (bytes .entry))) (now (output .entry))) ⌝ }
 {
-    if last | (RECORD_MAXIMUM <= bytes.len()) {
+    let is_judged = can_be_judged(bytes);
+    if last | is_judged {
         let after = counted(player);
         let written = put_bad(output, after.records);
         return Played {

@@ -104,7 +104,7 @@ module _ (s t : List ℕ) where
   pub fits-still : Fits s → Fits (s ++ t)
   fits-still (least, most, inside) = rw (little-append 2 s t 0 (omega arith), length-append s t) (least, most, omega arith)
 
-  same-record : Fits s → readOf (s ++ t) ≡ kindRead (little 2 s 2) (bodyIn s)
+  pub same-record : Fits s → readOf (s ++ t) ≡ kindRead (little 2 s 2) (bodyIn s)
   same-record f = rw (whole-is-read (s ++ t) (fits-still f), body-stays f, little-append 2 s t 2 (omega (arith, f)))
 
   fitted : 514 ≤ length s → Fits (s ++ t) → Fits s

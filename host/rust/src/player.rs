@@ -37,7 +37,7 @@ pub struct Played {
 #[derive(Clone, Copy, Debug, PartialEq, Eq, Hash)]
 pub enum PlayStatus {
     /// Every whole record of the piece is played. What is not read, under 514 bytes, is the
-    /// beginning of a record, or of a bad one: the next bytes of the recording go behind it.
+    /// beginning of a record: the next bytes of the recording go behind it.
     More,
     /// The run is at its end: a bad record has its line, or the recording ends.
     Ended,
@@ -71,9 +71,11 @@ impl<B: AsMut<[u8]>, P: BorrowMut<[Processor; 2]>> Machine<B, P> {
     /// Plays the next bytes of a recording on this machine: those of `piece`, behind which nothing
     /// comes if it is the `last`. The lines go to the start of `output`, which needs 64 bytes.
     ///
-    /// Each record is played as soon as it is whole. One that is not, and one that is bad, wait
-    /// for more bytes, unless the piece is the last or has 514 bytes from there on. Any machine
-    /// does: a wrong length or a wrong record is in the answers.
+    /// Each record is played, or ends the run as bad, as soon as all that its length counts is
+    /// there; a length over 512 ends it at once. A record that is not whole waits for more bytes,
+    /// unless the piece is the last. Any machine does: a wrong length or a wrong record is in the
+    /// answers. After [`PlayStatus::Ended`] the recording is played: the player does not remember
+    /// the end.
     ///
     /// ```
     /// use storage_unit::{Machine, PlayStatus, Played, Player, Refusal, Settings};

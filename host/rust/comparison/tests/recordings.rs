@@ -222,11 +222,19 @@ impl Fed<'_> {
         whole.checked_sub(1).map_or(0, |last| self.ends[last])
     }
 
-    /// Whether the end, or a bad record, is decided with the bytes that are there.
+    /// Whether the end, or a bad record, is decided with the bytes that are there: a bad record is
+    /// where its length is over 512, and else where all that the length counts is there.
     fn is_decided(&self, last: bool) -> bool {
         let good = self.ends.last().copied().unwrap_or(0);
-        let bad_there = self.run.fault.is_some() && self.there >= good + PLAY_RECORD_MAXIMUM;
-        last || bad_there
+        let bad = self.recording.get(good..self.there).unwrap_or_default();
+        let bad_there = match *bad {
+            [low, high, ref counted @ ..] => {
+                let length = usize::from(u16::from_le_bytes([low, high]));
+                length > 512 || length <= counted.len()
+            }
+            _ => false,
+        };
+        last || self.run.fault.is_some() && bad_there
     }
 
     /// One call with the bytes that are there. Gives its result.

@@ -37,14 +37,24 @@ fn settings() -> Settings
     }
 }
 
-// Reads behind the bytes that are held, and answers how many are held then.
-fn fill(input: &mut [u8], held: usize) -> usize
+// What came: how many bytes are held then, and whether reading failed.
+struct Came {
+    held: usize,
+    failed: bool,
+}
+
+// Reads behind the bytes that are held.
+fn fill(input: &mut [u8], held: usize) -> Came
     requires { ⌜ held ≤ length (now input) ⌝ }
-    ensures { λ r. ⌜ (held ≤ r) × (r ≤ length (now (input .exit))) × (take held (now (input .exit)) ≡ take held (now (input .entry))) ⌝ }
+    ensures { λ r. ⌜ (held ≤ r .held) × (r .held ≤ length (now (input .exit))) × (take held (now (input .exit)) ≡ take held (now (input .entry))) ⌝ }
 {
     let part = &mut input[held..];
     let got = libc::read(0, part);
-    held + io::count(got, part)
+    let more = io::count(got, part);
+    Came {
+        held: held + more,
+        failed: got < 0,
+    }
 }
 
 // Moves the bytes that are held from a place on to the front, and answers how many they are.
@@ -71,8 +81,44 @@ fn is_ended(status: Status) -> bool {
     }
 }
 
-// One turn: bytes are read, the records among them are played, and their lines are written. Nothing comes behind the bytes where there was
-// room for more and none came.
+// Plays what is held and writes the lines. `last`: nothing comes behind it.
+fn play_held(
+    storage: &mut [u8],
+    keys: &mut [u8],
+    input: &mut [u8],
+    output: &mut [u8],
+    player: Player,
+    held: usize,
+    last: bool,
+) -> Going
+    requires { ⌜ held ≤ length (now input) ⌝ }
+    ensures { λ r. ⌜ r .held ≤ length (now (input .exit)) ⌝ }
+{
+    let played = play(
+        settings(),
+        storage,
+        keys,
+        player,
+        &input[..held],
+        last,
+        output,
+    );
+    let next = played.player;
+    let status = played.status;
+    let written = io::write_all(1, &output[..played.written]);
+    if !written {
+        io::write_all(2, b"playback: writing failed\n");
+    }
+    let rest = keep(input, played.read, held);
+    Going {
+        player: next,
+        held: rest,
+        ended: !written | is_ended(status),
+    }
+}
+
+// One turn: bytes are read and what is held is played. Nothing comes behind it where there was room for more and none came. Where reading
+// fails, it is not known what comes, and the run is given up.
 fn turn(
     storage: &mut [u8],
     keys: &mut [u8],
@@ -85,25 +131,16 @@ fn turn(
     ensures { λ r. ⌜ r .held ≤ length (now (input .exit)) ⌝ }
 {
     let came = fill(input, held);
-    let last = (came == held) & (held < input.len());
-    let played = play(
-        settings(),
-        storage,
-        keys,
-        player,
-        &input[..came],
-        last,
-        output,
-    );
-    let next = played.player;
-    let status = played.status;
-    let written = io::write_all(1, &output[..played.written]);
-    let rest = keep(input, played.read, came);
-    Going {
-        player: next,
-        held: rest,
-        ended: !written | is_ended(status),
+    if came.failed {
+        io::write_all(2, b"playback: reading failed\n");
+        return Going {
+            player,
+            held,
+            ended: true,
+        };
     }
+    let last = (came.held == held) & (held < input.len());
+    play_held(storage, keys, input, output, player, came.held, last)
 }
 
 // The run of a recording, from the start that 02 fixes.

@@ -20,8 +20,8 @@ read-requires c κs = search needs
 count-requires : tie.Need-count-requires
 count-requires c κs = search needs
 
-add-result : tie.Need-add-result
-add-result c = search needs
+add-t7 : tie.Need-add-t7
+add-t7 c = search needs
 
 same-length : tie.Need-same-length
 same-length c = search needs
@@ -41,6 +41,6 @@ fill-spec =
     part-part-end
     read-requires
     count-requires
-    add-result
+    add-t7
     same-length
     returns)

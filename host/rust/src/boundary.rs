@@ -265,14 +265,14 @@ pub const PLAY_MORE: u32 = 0;
 /// What playing gives: the run is at its end. A bad record begins at the first unread byte; where
 /// there is none, the recording ends.
 pub const PLAY_ENDED: u32 = 1;
-/// What playing gives: under [`PLAY_OUTPUT_MINIMUM`] bytes of the output are left, also where nothing
-/// is left to be played.
+/// What playing gives: under [`PLAY_OUTPUT_MINIMUM`] bytes of the output are left, also where
+/// nothing is left to be played.
 pub const PLAY_ROOM: u32 = 2;
 /// What playing gives: an ordinal is the greatest of 64 bits, also where nothing is left to be
 /// played.
 pub const PLAY_LIMIT: u32 = 3;
-/// What playing gives: wrong settings or a player of a wrong length; nothing has changed, the numbers
-/// of bytes read and written included.
+/// What playing gives: wrong settings or a player of a wrong length; nothing has changed, and so
+/// the numbers of bytes read and written are those from before the call.
 pub const PLAY_REFUSED: u32 = 4;
 
 /// The number of bytes of the longest record of a recording, its length included.

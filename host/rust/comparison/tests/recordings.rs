@@ -576,7 +576,10 @@ fn texts_of_recordings() {
         let written = recording::encode(text.as_bytes()).expect("the text of records");
         match bad {
             None => assert_eq!(written, recorded),
-            Some(_) => assert!(recorded.starts_with(&written)),
+            Some(bad) => {
+                assert!(recorded.starts_with(&written));
+                assert_eq!(bad.offset, written.len() as u64);
+            }
         }
         bad_ones += u64::from(bad.is_some());
     }

@@ -481,6 +481,129 @@ static void play_pieces(void)
     CHECK(result == STORAGE_UNIT_PLAY_ENDED && strcmp(lines, recording_lines) == 0);
 }
 
+/* Plays these first bytes of the recording from the start, with an output of this length. */
+static uint32_t play_first(struct storage_unit_player *player, size_t count, int last,
+                           size_t output_length)
+{
+    struct storage_unit_machine machine = machine_of_tests();
+
+    start();
+    *player = new_player();
+    return storage_unit_play_piece(&machine, player, recording, count, last, output,
+                                   output_length);
+}
+
+/* At the end of a run, unread bytes are a bad record and what is behind it. */
+static void play_ends(void)
+{
+    static const size_t ends[] = {0, 11, 17, 30, 40, 51};
+    static const uint8_t bad[] = {
+        4, 0, 255, 0, 'A', 'B',
+        2, 0, 5, 0,
+        9, 0, 1, 0, 0, 0, 0, 0, 0, 1, 0,
+    };
+    static const uint8_t over[] = {1, 2};
+    struct storage_unit_machine machine = machine_of_tests();
+    struct storage_unit_player player;
+    size_t count, whole = 0;
+
+    CHECK(sizeof recording == 51);
+    for (count = 0; count <= sizeof recording; count++) {
+        if (count == ends[whole + 1]) {
+            whole++;
+        }
+        CHECK(play_first(&player, count, 1, sizeof output) == STORAGE_UNIT_PLAY_ENDED);
+        CHECK(player.read == ends[whole]);
+        CHECK(player.records_read == whole + (count == ends[whole] ? 0u : 1u));
+        CHECK((memchr(output, 'b', (size_t)player.written) != NULL) == (player.read < count));
+        CHECK(play_first(&player, count, 0, sizeof output) == STORAGE_UNIT_PLAY_MORE);
+        CHECK(player.read == ends[whole] && player.records_read == whole);
+    }
+    /* A kind that there is not, as soon as it is there, and a length over 512. */
+    for (count = 10; count <= sizeof bad; count++) {
+        player = new_player();
+        CHECK(storage_unit_play_piece(&machine, &player, bad, count, count % 2 == 0, output,
+                                      sizeof output) == STORAGE_UNIT_PLAY_ENDED);
+        CHECK(has_written(&player, "bad record 2\n"));
+        CHECK(player.read == 6 && player.records_read == 2 && player.requests == 0);
+    }
+    player = new_player();
+    CHECK(storage_unit_play_piece(&machine, &player, over, sizeof over, 0, output, sizeof output)
+          == STORAGE_UNIT_PLAY_ENDED);
+    CHECK(has_written(&player, "bad record 1\n") && player.read == 0);
+}
+
+/* ROOM is first and LIMIT is next, also where nothing is left. */
+static void play_room(void)
+{
+    struct storage_unit_machine machine = machine_of_tests();
+    struct storage_unit_player player;
+    size_t length;
+    int last;
+
+    for (length = 0; length <= STORAGE_UNIT_PLAY_OUTPUT_MINIMUM; length++) {
+        uint32_t expected = length < STORAGE_UNIT_PLAY_OUTPUT_MINIMUM ? STORAGE_UNIT_PLAY_ROOM
+                                                                      : STORAGE_UNIT_PLAY_ENDED;
+
+        CHECK(play_first(&player, 0, 1, length) == expected && has_written(&player, ""));
+        CHECK(play_first(&player, 12, 1, length) == STORAGE_UNIT_PLAY_ROOM);
+        CHECK(player.read == (length < STORAGE_UNIT_PLAY_OUTPUT_MINIMUM ? 0u : 11u));
+        CHECK(keys[0] == (length < STORAGE_UNIT_PLAY_OUTPUT_MINIMUM ? 0u : 4u));
+    }
+    /* Behind the last line, of six bytes, 63 are left. */
+    CHECK(play_first(&player, 11, 1, 69) == STORAGE_UNIT_PLAY_ROOM);
+    CHECK(has_written(&player, "1 0 0\n") && player.read == 11);
+    CHECK(storage_unit_play_piece(&machine, &player, NULL, 0, 1, output, 69)
+          == STORAGE_UNIT_PLAY_ENDED);
+    CHECK(player.read == 0 && player.written == 0 && player.records_read == 1);
+    CHECK(play_first(&player, 11, 1, 70) == STORAGE_UNIT_PLAY_ENDED);
+
+    for (last = 0; last <= 1; last++) {
+        player = new_player();
+        player.requests = UINT64_MAX;
+        CHECK(storage_unit_play_piece(&machine, &player, NULL, 0, last, output, 63)
+              == STORAGE_UNIT_PLAY_ROOM);
+        CHECK(storage_unit_play_piece(&machine, &player, NULL, 0, last, output, 64)
+              == STORAGE_UNIT_PLAY_LIMIT);
+        CHECK(has_written(&player, "") && player.read == 0);
+    }
+}
+
+/* The longest record, behind a remark, through a buffer that has room for just one such record. */
+static void play_short_buffer(void)
+{
+    static uint8_t all[4 + STORAGE_UNIT_PLAY_RECORD_MAXIMUM] = {
+        2, 0, 255, 0, 0, 2, 2, 0, 0, 0, 0, 0, 0, 0xF7, 1,
+    };
+    static uint8_t piece[STORAGE_UNIT_PLAY_RECORD_MAXIMUM];
+    struct storage_unit_machine machine = machine_of_tests();
+    struct storage_unit_player player = new_player();
+    size_t held = 0, given = 0;
+    uint32_t result;
+    int last = 0;
+
+    start();
+    do {
+        result = storage_unit_play_piece(&machine, &player, piece, held, last, output,
+                                         sizeof output);
+        held -= (size_t)player.read;
+        memmove(piece, piece + player.read, held);
+        if (result == STORAGE_UNIT_PLAY_MORE) {
+            size_t count = sizeof piece - held;
+
+            CHECK(count > 0);
+            count = count < sizeof all - given ? count : sizeof all - given;
+            memcpy(piece + held, all + given, count);
+            given += count;
+            held += count;
+            last = count == 0;
+        }
+    } while (result == STORAGE_UNIT_PLAY_MORE && failures == 0);
+    CHECK(result == STORAGE_UNIT_PLAY_ENDED && held == 0 && last);
+    CHECK(player.requests == 1 && player.records_read == 2);
+    CHECK(memcmp(output, "1 66 0\n\xEE", 8) == 0);
+}
+
 /* What is refused changes nothing. At the greatest ordinal nothing is played. */
 static void play_refused(void)
 {
@@ -855,6 +978,9 @@ int main(void)
     machine_functions();
     play_whole();
     play_pieces();
+    play_ends();
+    play_room();
+    play_short_buffer();
     play_refused();
     random_requests();
     return failures == 0 ? 0 : 1;

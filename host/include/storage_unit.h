@@ -179,7 +179,7 @@ uint32_t storage_unit_version(void);
 #define STORAGE_UNIT_PLAY_MORE    0u /* every whole record of the piece is played */
 #define STORAGE_UNIT_PLAY_ENDED   1u /* the recording is at its end, or a bad record has its line */
 #define STORAGE_UNIT_PLAY_ROOM    2u /* under 64 bytes of the output are left */
-#define STORAGE_UNIT_PLAY_LIMIT   3u /* an ordinal is 18446744073709551615: nothing more is played */
+#define STORAGE_UNIT_PLAY_LIMIT   3u /* an ordinal is 18446744073709551615, the greatest */
 #define STORAGE_UNIT_PLAY_REFUSED 4u /* wrong settings, or a player of a wrong length */
 
 #define STORAGE_UNIT_PLAY_RECORD_MAXIMUM 514u /* bytes of the longest record, its length included */
@@ -192,7 +192,7 @@ uint32_t storage_unit_version(void);
 struct storage_unit_player {
     uint8_t records[STORAGE_UNIT_RECORDS_LENGTH];
     uint64_t requests;     /* requests so far */
-    uint64_t records_read; /* records of the recording so far, remarks included */
+    uint64_t records_read; /* records so far, remarks and a bad record included */
     uint64_t read;         /* bytes of the piece that the call has read */
     uint64_t written;      /* bytes of text that the call has written */
 };
@@ -308,24 +308,29 @@ uint64_t storage_unit_store(uint32_t settings,
  *                the number of bytes that it has read and written. A wrong record is in the answer
  *                to every request of its processor.
  * piece          The next bytes of the recording, as many as the caller likes. First those that
- *                the call before has not read.
+ *                the call before has not read, up to 513: the buffer has at least 514 bytes,
+ *                STORAGE_UNIT_PLAY_RECORD_MAXIMUM, or there may be no room for a next byte.
  * last           Not 0: nothing comes behind the piece.
- * output         Room for the lines, which the call puts at its start.
+ * output         Room for the lines, which the call puts at its start: at least 64 bytes,
+ *                STORAGE_UNIT_PLAY_OUTPUT_MINIMUM. With fewer, each call plays nothing and
+ *                gives ROOM.
  *
- * Each record is played, or ends the run as bad, as soon as all that its length counts is there; a
- * length over 512 ends it at once. A record that is not whole waits for more bytes, unless the piece
- * is the last. Returns
+ * Before each record, and where none is left, ROOM is tested first, then LIMIT. Each record is
+ * played, or ends the run as bad, as soon as all that its length counts is there; a length over 512
+ * ends it at once. A record that is not whole waits for more bytes, or is bad if the piece is the
+ * last. Returns
  *
  * STORAGE_UNIT_PLAY_MORE     Put the unread rest of the piece, which is under 514 bytes, in front
- *                            of the next bytes, and call again.
- * STORAGE_UNIT_PLAY_ENDED    The run is at its end. Behind a bad record nothing is played; its
- *                            line is the last. It counts among the records, and `read` stops in
- *                            front of it. The player does not remember the end: call no more.
- * STORAGE_UNIT_PLAY_ROOM     Take the lines from the output and call again with the unread rest of
- *                            the piece, and with at least 64 bytes of output. Nothing is lost.
- *                            This is tested first, also where nothing is left to be played.
- * STORAGE_UNIT_PLAY_LIMIT    The requests or the records can be counted no further.
- * STORAGE_UNIT_PLAY_REFUSED  Nothing has changed, not even the player.
+ *                            of the next bytes, and call again. Never where the piece is the last.
+ * STORAGE_UNIT_PLAY_ENDED    The run is at its end, which the player does not keep: call no more.
+ *                            `read` is under the length of the piece: a bad record begins at the
+ *                            first unread byte, its line is the last, nothing behind it is played.
+ *                            `read` is the whole piece: the recording ends without a bad record.
+ * STORAGE_UNIT_PLAY_ROOM     Take the lines from the output and call again, with the unread rest of
+ *                            the piece and the same `last`, also where the rest is empty.
+ * STORAGE_UNIT_PLAY_LIMIT    The requests or the records can be counted no further: call no more.
+ * STORAGE_UNIT_PLAY_REFUSED  Nothing has changed, not even the player: its `read` and `written` are
+ *                            those from before the call.
  *
  * What the caller must see to is as for storage_unit_request: storage, keys, player, piece and
  * output do not overlap.

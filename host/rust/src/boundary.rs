@@ -253,22 +253,26 @@ pub const STORE_PREFIX: u32 = 9;
 pub const PLAYER_LENGTH: usize = 48;
 /// The place in a player of the number of requests so far.
 pub const PLAYER_REQUESTS_AT: usize = 16;
-/// The place in a player of the number of records of the recording so far.
+/// The place in a player of the number of records so far, remarks and a bad record included.
 pub const PLAYER_RECORDS_AT: usize = 24;
 /// The place in a player of the number of bytes of the piece that the call has read.
 pub const PLAYER_READ_AT: usize = 32;
 /// The place in a player of the number of bytes of text that the call has written.
 pub const PLAYER_WRITTEN_AT: usize = 40;
 
-/// What playing gives: every whole record of the piece is played.
+/// What playing gives: every whole record of the piece is played. Never for the last piece.
 pub const PLAY_MORE: u32 = 0;
-/// What playing gives: the run is at its end.
+/// What playing gives: the run is at its end. A bad record begins at the first unread byte; where
+/// there is none, the recording ends.
 pub const PLAY_ENDED: u32 = 1;
-/// What playing gives: under [`PLAY_OUTPUT_MINIMUM`] bytes of the output are left.
+/// What playing gives: under [`PLAY_OUTPUT_MINIMUM`] bytes of the output are left, also where
+/// nothing is left to be played.
 pub const PLAY_ROOM: u32 = 2;
-/// What playing gives: an ordinal is the greatest of 64 bits.
+/// What playing gives: an ordinal is the greatest of 64 bits, also where nothing is left to be
+/// played.
 pub const PLAY_LIMIT: u32 = 3;
-/// What playing gives: wrong settings or a player of a wrong length; nothing has changed.
+/// What playing gives: wrong settings or a player of a wrong length; nothing has changed, and so
+/// the numbers of bytes read and written are those from before the call.
 pub const PLAY_REFUSED: u32 = 4;
 
 /// The number of bytes of the longest record of a recording, its length included.

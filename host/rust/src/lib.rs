@@ -64,7 +64,7 @@ mod version;
 pub use answers::{Answer, Completed, Reason, Refusal, Rule, UnknownReason};
 pub use calls::{fetch, request, store};
 pub use machine::{BorrowedMachine, Cpu, Machine};
-pub use player::{PlayStatus, Played, Player};
+pub use player::{PlayStatus, Played, PlayedAll, Player};
 pub use requests::{AccessKind, KeyInstruction, PrefixInstruction, Request};
 pub use state::{ACCESS_MAXIMUM, Processor, STORAGE_MAXIMUM, STORAGE_MULTIPLE, Settings, key};
 pub use version::{VERSION, Version, version};

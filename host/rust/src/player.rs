@@ -17,7 +17,7 @@ use crate::{Machine, Processor};
 pub struct Player {
     /// The requests so far.
     pub requests: u64,
-    /// The records so far, remarks included.
+    /// The records so far, remarks and a bad record included.
     pub records: u64,
 }
 
@@ -25,7 +25,8 @@ pub struct Player {
 #[must_use = "the bytes that are not read have to be played by the next call"]
 #[derive(Clone, Copy, Debug, PartialEq, Eq, Hash)]
 pub struct Played {
-    /// How many bytes of the piece are read. The next call is given the others first.
+    /// How many bytes of the piece are read. The next call is given the others first. A bad record
+    /// is not read.
     pub read: usize,
     /// How many bytes of text are written at the start of the output. Those behind are kept.
     pub written: usize,
@@ -37,17 +38,22 @@ pub struct Played {
 #[derive(Clone, Copy, Debug, PartialEq, Eq, Hash)]
 pub enum PlayStatus {
     /// Every whole record of the piece is played. What is not read, under 514 bytes, is the
-    /// beginning of a record: the next bytes of the recording go behind it.
+    /// beginning of a record: the next bytes of the recording go behind it. Never where the piece
+    /// is the last.
     More,
-    /// The run is at its end: a bad record has its line, or the recording ends.
+    /// The run is at its end. If all of the piece is read, the recording ends; if not, the first
+    /// byte that is not read begins a bad record, whose line is the last.
     Ended,
-    /// Under 64 bytes of the output are left. Call again with what is not read and with a
-    /// longer output, or the same after its text is taken.
+    /// Under 64 bytes of the output are left, also behind the last record. Call again with what is
+    /// not read, which may be nothing, the same `last`, and a longer output or the same after its
+    /// text is taken.
     Room,
-    /// An ordinal is the greatest that 64 bits can hold, and nothing more is played.
+    /// An ordinal is the greatest that 64 bits can hold, and nothing more is played. This comes
+    /// also where nothing is left.
     Limit,
-    /// Nothing has changed. A library of this crate's [`VERSION`](crate::VERSION) never gives it
-    /// here; it stands for any number that this crate does not know.
+    /// Nothing has changed, and [`Played`] has zeros. A library of this crate's
+    /// [`VERSION`](crate::VERSION) never gives it here; it stands for any number that this crate
+    /// does not know.
     Refused,
 }
 
@@ -64,12 +70,23 @@ impl PlayStatus {
     }
 }
 
+/// What [`Machine::play_all`] has done.
+#[derive(Clone, Copy, Debug, PartialEq, Eq, Hash)]
+pub struct PlayedAll {
+    /// The requests and records of the recording.
+    pub player: Player,
+    /// Whether a bad record ended the run: the last that the player counts. If not, the whole
+    /// recording is played.
+    pub bad_record: bool,
+}
+
 /// How many bytes of a recording, and of text, [`Machine::play_all`] holds at a time.
 const BUFFER: usize = 1 << 16;
 
 impl<B: AsMut<[u8]>, P: BorrowMut<[Processor; 2]>> Machine<B, P> {
     /// Plays the next bytes of a recording on this machine: those of `piece`, behind which nothing
-    /// comes if it is the `last`. The lines go to the start of `output`, which needs 64 bytes.
+    /// comes if it is the `last`. The lines go to the start of `output`, which has at least 64
+    /// bytes: with fewer, each call plays nothing and gives [`PlayStatus::Room`].
     ///
     /// Each record is played, or ends the run as bad, as soon as all that its length counts is
     /// there; a length over 512 ends it at once. A record that is not whole waits for more bytes,
@@ -89,6 +106,25 @@ impl<B: AsMut<[u8]>, P: BorrowMut<[Processor; 2]>> Machine<B, P> {
     /// assert_eq!(played, Played { read: 11, written: 6, status: PlayStatus::Ended });
     /// assert_eq!(&output[..played.written], b"1 0 0\n");
     /// assert_eq!(player, Player { requests: 1, records: 1 });
+    /// # Ok::<(), Refusal>(())
+    /// ```
+    ///
+    /// At the end of a run, what is not read begins with a bad record:
+    ///
+    /// ```
+    /// # use storage_unit::{Machine, PlayStatus, Played, Player, Refusal, Settings};
+    /// # let mut machine = Machine::new(Settings { four_k: false, extensions: true }, 65_536)?;
+    /// // A remark of no bytes; then a record of kind 5, which there is not.
+    /// let recording = [0x02, 0x00, 0xff, 0x00, 0x02, 0x00, 0x05, 0x00];
+    /// let mut player = Player::default();
+    /// let mut output = [0; 64];
+    /// let played = machine.play(&mut player, &recording, false, &mut output);
+    /// assert_eq!(played, Played { read: 4, written: 13, status: PlayStatus::Ended });
+    /// assert_eq!(&output[..played.written], b"bad record 2\n");
+    /// assert_eq!(player, Player { requests: 0, records: 2 });
+    ///
+    /// let played = machine.play(&mut player, &[], true, &mut output[..63]);
+    /// assert_eq!(played, Played { read: 0, written: 0, status: PlayStatus::Room });
     /// # Ok::<(), Refusal>(())
     /// ```
     pub fn play(
@@ -119,25 +155,33 @@ impl<B: AsMut<[u8]>, P: BorrowMut<[Processor; 2]>> Machine<B, P> {
     ///
     /// # Errors
     ///
-    /// Reading or writing failed. What was played before stays so.
+    /// - Reading from `recording` failed; an interrupted reading is tried again.
+    /// - Writing to `lines` failed, or flushing them at the end.
+    /// - [`PlayStatus::Limit`]: there are too many requests or records to be counted.
+    /// - The library that is linked is not of this crate's [`VERSION`](crate::VERSION), and has
+    ///   given a result that the crate does not expect.
+    ///
+    /// What was played before stays so, also where its lines could not be written. A bad record is
+    /// no error.
     ///
     /// ```
-    /// use storage_unit::{Machine, Player, Settings};
+    /// use storage_unit::{Machine, PlayedAll, Player, Settings};
     ///
     /// let mut machine = Machine::new(Settings { four_k: false, extensions: true }, 65_536)?;
     /// // A fetch of one byte from address 0; then a record that is cut short.
     /// let recording = b"\x09\x00\x01\x00\x00\x00\x00\x00\x00\x01\x00\x09\x00\x01";
     /// let mut lines = Vec::new();
-    /// let player = machine.play_all(&recording[..], &mut lines)?;
+    /// let played = machine.play_all(&recording[..], &mut lines)?;
     /// assert_eq!(lines, b"1 0 0\nbad record 2\n");
-    /// assert_eq!(player.requests, 1);
+    /// let player = Player { requests: 1, records: 2 };
+    /// assert_eq!(played, PlayedAll { player, bad_record: true });
     /// # Ok::<(), Box<dyn std::error::Error>>(())
     /// ```
     pub fn play_all(
         &mut self,
         mut recording: impl Read,
         mut lines: impl Write,
-    ) -> io::Result<Player> {
+    ) -> io::Result<PlayedAll> {
         let mut player = Player::default();
         let mut input = Input::new();
         let mut output = vec![0; BUFFER];
@@ -157,7 +201,8 @@ impl<B: AsMut<[u8]>, P: BorrowMut<[Processor; 2]>> Machine<B, P> {
             }
         }
         lines.flush()?;
-        Ok(player)
+        let bad_record = !input.unread().is_empty();
+        Ok(PlayedAll { player, bad_record })
     }
 }
 

@@ -3,7 +3,7 @@
 
 mod support;
 
-use storage_unit::Machine;
+use storage_unit::{Machine, Player};
 use storage_unit_comparison::player::{self, Fault, Run, start};
 
 use support::recordings::*;
@@ -11,10 +11,12 @@ use support::recordings::*;
 /// Plays the recording by the reference. The proved player writes the same, and leaves the same.
 fn play(machine: &mut Machine, recording: &[u8]) -> Run {
     let (mut proved, mut lines) = (machine.clone(), Vec::new());
-    let counted = proved.play_all(recording, &mut lines).expect("a vector");
+    let played = proved.play_all(recording, &mut lines).expect("a vector");
     let run = player::play(machine, recording);
     assert_eq!(String::from_utf8_lossy(&lines), run.lines);
-    assert_eq!(counted.requests, run.requests);
+    let Player { requests, records } = played.player;
+    assert_eq!((requests, records), (run.requests, run.records));
+    assert_eq!(played.bad_record, run.fault.is_some());
     assert!(proved == *machine, "{recording:02x?}");
     run
 }

@@ -6,11 +6,11 @@
 
 mod support;
 
-use std::io::{self, Read};
+use std::io::{self, Read, Write};
 use std::thread;
 
 use storage_unit::boundary::*;
-use storage_unit::{Machine, PlayStatus, Player, Processor, Settings};
+use storage_unit::{Machine, PlayStatus, PlayedAll, Player, Processor, Settings};
 use storage_unit_comparison::numbers::decode_settings;
 use storage_unit_comparison::plain_player;
 use storage_unit_comparison::player::{self, Run};
@@ -263,7 +263,7 @@ impl Fed<'_> {
         self.read += read;
         match result {
             PLAY_MORE => {
-                assert!(!self.is_decided(last));
+                assert!(!last && !self.is_decided(last));
                 assert_eq!(self.read, self.whole_records());
                 assert!(self.there - self.read < PLAY_RECORD_MAXIMUM);
             }
@@ -331,10 +331,10 @@ fn compare(
 
     assert_eq!(str::from_utf8(&fed.lines), Ok(run.lines.as_str()));
     assert_eq!(pair.bytes.number(PLAYER_REQUESTS_AT), run.requests);
-    if run.fault.is_none() {
-        assert_eq!(pair.bytes.number(PLAYER_RECORDS_AT), run.records);
-        assert_eq!(fed.read, recording.len());
-    }
+    assert_eq!(pair.bytes.number(PLAYER_RECORDS_AT), run.records);
+    // A bad record is not read, and at least one byte of it is there.
+    assert_eq!(fed.read, ends.last().copied().unwrap_or(0));
+    assert_eq!(fed.read < fed.there, run.fault.is_some());
     assert!(pair.check(), "storage, keys or records");
     assert!(recording == kept, "the recording");
 }
@@ -447,6 +447,17 @@ impl Read for Parts<'_> {
     }
 }
 
+/// What the method of a machine says of this run.
+fn expected(run: &Run) -> PlayedAll {
+    PlayedAll {
+        player: Player {
+            requests: run.requests,
+            records: run.records,
+        },
+        bad_record: run.fault.is_some(),
+    }
+}
+
 /// The method of a machine that plays all that it reads, on a machine that owns and on one that
 /// borrows.
 #[test]
@@ -461,7 +472,7 @@ fn recordings_that_are_read() {
             random: Random::new(seed),
         };
         let mut lines = Vec::new();
-        let counted = if random.one_in(2) {
+        let played = if random.one_in(2) {
             same.play_all(parts, &mut lines)
         } else {
             let (storage, keys) = (&mut same.storage[..], &mut same.keys[..]);
@@ -470,8 +481,64 @@ fn recordings_that_are_read() {
         };
         let run = player::play(&mut machine, &recording);
         assert_eq!(str::from_utf8(&lines), Ok(run.lines.as_str()));
-        assert_eq!(counted.expect("no error").requests, run.requests);
+        assert_eq!(played.expect("no error"), expected(&run));
         assert!(machine == same, "{recording:02x?}");
+    }
+}
+
+/// Gives its bytes, then an error.
+struct Failing<'a>(&'a [u8]);
+
+impl Read for Failing<'_> {
+    fn read(&mut self, buffer: &mut [u8]) -> io::Result<usize> {
+        match self.0.read(buffer) {
+            Ok(0) => Err(io::ErrorKind::TimedOut.into()),
+            result => result,
+        }
+    }
+}
+
+/// Fails to write, or to flush what is written.
+struct Full {
+    writes: bool,
+}
+
+impl Write for Full {
+    fn write(&mut self, bytes: &[u8]) -> io::Result<usize> {
+        match self.writes {
+            true => Ok(bytes.len()),
+            false => Err(io::ErrorKind::StorageFull.into()),
+        }
+    }
+
+    fn flush(&mut self) -> io::Result<()> {
+        Err(io::ErrorKind::StorageFull.into())
+    }
+}
+
+/// Errors of reading and of writing are given back, and what is played stays so.
+#[test]
+fn errors_of_streams() {
+    let recording = [store(0, 0x800, 1, b"A"), remark(3)].concat();
+    for cut in [11, 12, recording.len() - 1, recording.len()] {
+        let (mut machine, mut lines) = (player::start(), Vec::new());
+        let error = machine.play_all(Failing(&recording[..cut]), &mut lines);
+        assert_eq!(
+            error.map_err(|error| error.kind()),
+            Err(io::ErrorKind::TimedOut)
+        );
+        let played = cut > 11;
+        assert_eq!(lines, &b"1 0 0\n"[..if played { 6 } else { 0 }]);
+        assert_eq!(machine.storage[0x800], if played { b'A' } else { 0 });
+    }
+    for writes in [false, true] {
+        let mut machine = player::start();
+        let error = machine.play_all(&recording[..], Full { writes });
+        assert_eq!(
+            error.map_err(|error| error.kind()),
+            Err(io::ErrorKind::StorageFull)
+        );
+        assert_eq!(machine.storage[0x800], b'A');
     }
 }
 
@@ -509,7 +576,10 @@ fn texts_of_recordings() {
         let written = recording::encode(text.as_bytes()).expect("the text of records");
         match bad {
             None => assert_eq!(written, recorded),
-            Some(_) => assert!(recorded.starts_with(&written)),
+            Some(bad) => {
+                assert!(recorded.starts_with(&written));
+                assert_eq!(bad.offset, written.len() as u64);
+            }
         }
         bad_ones += u64::from(bad.is_some());
     }
@@ -536,10 +606,10 @@ fn long_recording() {
         rest: &recording,
         random: Random::new(1_974),
     };
-    let counted = same.play_all(parts, &mut lines).expect("no error");
+    let played = same.play_all(parts, &mut lines).expect("no error");
     let run = player::play(&mut machine, &recording);
     assert!(lines == run.lines.as_bytes());
-    assert_eq!(counted.requests, run.requests);
+    assert_eq!(played, expected(&run));
     assert!(machine == same);
     let mut plain_lines = Vec::new();
     plain_player::play(&recording[..], &mut plain_lines).expect("no error");
@@ -648,9 +718,22 @@ fn statuses_of_a_machine() {
     // Behind a line of six bytes, 63 are left.
     let third = play(&mut player, &fetch(0, 0, 1).repeat(2), true, 69);
     assert_eq!(third, (11, "3 0 0\n".into(), PlayStatus::Room));
+    // Behind the last line too.
+    let fourth = play(&mut player, &fetch(0, 0, 1), true, 69);
+    assert_eq!(fourth, (11, "4 0 0\n".into(), PlayStatus::Room));
+    let fifth = play(&mut player, &[], true, 69);
+    assert_eq!(fifth, (0, String::new(), PlayStatus::Ended));
+    assert_eq!((player.requests, player.records), (4, 5));
+    // Where nothing is left, room is wanted first, and then the limit is met.
     player.requests = u64::MAX;
-    let fourth = play(&mut player, &recording, true, 256);
-    assert_eq!(fourth, (0, String::new(), PlayStatus::Limit));
+    for piece in [&recording[..], &[]] {
+        for last in [false, true] {
+            let short = play(&mut player, piece, last, 63);
+            assert_eq!(short, (0, String::new(), PlayStatus::Room));
+            let long = play(&mut player, piece, last, 64);
+            assert_eq!(long, (0, String::new(), PlayStatus::Limit));
+        }
+    }
 }
 
 /// Without output nothing is played and nothing is lost.
@@ -702,8 +785,7 @@ fn null_pointers() {
             ),
         ]
     };
-    // An empty piece without output may want room first.
-    assert!(matches!(results[0], PLAY_MORE | PLAY_ROOM));
-    assert_eq!(results[1..], [PLAY_REFUSED, PLAY_ROOM, PLAY_ENDED]);
+    // An empty piece without output wants room first.
+    assert_eq!(results, [PLAY_ROOM, PLAY_REFUSED, PLAY_ROOM, PLAY_ENDED]);
     assert_eq!(&output[..8], b"1 64 0\n\xEE");
 }

@@ -30,10 +30,16 @@
 //! | `store_prefix PROCESSOR` | and `word=WORD`, if the ignored word is not zero |
 //! | `# TEXT` | a remark; TEXT is at most 256 bytes |
 //!
-//! PROCESSOR is a number from 0 to 255, of which the unit refuses 2 and over. Numbers are decimal,
-//! or hexadecimal behind `0x`. DATA is a text in quotes, as `"ABC"`, or hexadecimal digits behind
-//! an x, as `xC1C2C3`. In a text in quotes and in a remark, `\n`, `\r`, `\t`, `\"`, `\\` and
-//! `\xHH` stand for one byte; other bytes stand for themselves. Lines that are blank are skipped.
+//! PROCESSOR is a number from 0 to 255, of which the unit refuses 2 and over. ADDRESS, R1, R2 and
+//! WORD are at most 0xffffffff. Numbers are decimal, also behind a zero, or hexadecimal behind
+//! `0x`. DATA is a text in quotes, as `"ABC"`, or hexadecimal digits behind an x, as `xC1C2C3`. In
+//! a text in quotes and in a remark, `\n`, `\r`, `\t`, `\"`, `\\` and `\xHH` stand for one byte;
+//! other bytes stand for themselves.
+//!
+//! Lines that are blank are skipped. Names, `r1=`, `word=`, `0x`, the x of DATA and hexadecimal
+//! digits may be in capitals; tabs and more blanks may stand between the words. A line may end with
+//! a carriage return, the last without a line end, and the text may begin with a byte order mark.
+//! One blank behind `#` is not part of the remark. Behind a record on its line there is no remark.
 
 #![forbid(unsafe_code)]
 #![deny(missing_docs)]
@@ -49,7 +55,10 @@ pub use records::{
 pub use streams::{ReadError, show};
 pub use text::{TextError, parse_line};
 
-/// The recording that a text stands for.
+/// What some editors put at the start of a text: U+FEFF in UTF-8.
+const BYTE_ORDER_MARK: &[u8] = b"\xef\xbb\xbf";
+
+/// The recording that a text stands for. A byte order mark at its start is skipped.
 ///
 /// # Errors
 ///
@@ -63,6 +72,7 @@ pub use text::{TextError, parse_line};
 /// );
 /// ```
 pub fn encode(text: &[u8]) -> Result<Vec<u8>, TextError> {
+    let text = text.strip_prefix(BYTE_ORDER_MARK).unwrap_or(text);
     let mut recording = Vec::new();
     for (ordinal, line) in (1..).zip(text.split(|&byte| byte == b'\n')) {
         let record = parse_line(line).map_err(|error| error.in_line(ordinal))?;
@@ -84,7 +94,7 @@ pub fn encode(text: &[u8]) -> Result<Vec<u8>, TextError> {
 /// assert_eq!(text, "fetch 0 0x0 1\n");
 /// assert_eq!(
 ///     bad.unwrap().to_string(),
-///     "bad record 2: the recording ends inside it"
+///     "bad record 2 at offset 11: the recording ends inside it"
 /// );
 /// ```
 #[must_use]

@@ -16,7 +16,7 @@ usage: recording write < TEXT > RECORDING
 A line of the text is a record. Blank lines are skipped.
 
   fetch PROCESSOR ADDRESS LENGTH
-  store PROCESSOR ADDRESS DATA
+  store PROCESSOR ADDRESS DATA     the length is that of DATA
   isk PROCESSOR R1 R2              and ssk, iske, sske
   rrb PROCESSOR ADDRESS            r1=WORD behind it, if the ignored word is not zero
   rrbe PROCESSOR R2                likewise
@@ -24,13 +24,22 @@ A line of the text is a record. Blank lines are skipped.
   store_prefix PROCESSOR           word=WORD behind it, if the ignored word is not zero
   # TEXT                           a remark
 
-PROCESSOR is 0 to 255; the unit refuses 2 and over. Numbers are decimal, or hexadecimal behind
-0x. DATA is a text in quotes or hexadecimal digits behind an x: "ABC" or xC1C2C3; at most 503
-bytes, of which the unit refuses 0 and over 256. A remark has at most 256 bytes. In quotes and in
-remarks, \n \r \t \" \\ and \xHH stand for one byte.
+  PROCESSOR              0 to 255; the unit refuses 2 and over with 65
+  ADDRESS, R1, R2, WORD  0 to 0xffffffff
+  LENGTH                 0 to 65535; the unit refuses 0 and over 256 with 66
+  DATA                   "ABC" or xC1C2C3, a text in quotes or hexadecimal digits behind an x;
+                         0 to 503 bytes, of which the unit refuses 0 and over 256 with 66
+  TEXT                   0 to 256 bytes
 
-write  writes nothing if a line is no record, and names the line
-read   shows all records before a bad one, and names it by its ordinal among all records
+Numbers are decimal, 010 too, or hexadecimal behind 0x. In quotes and in remarks, \n \r \t \" \\
+and \xHH stand for one byte, and other bytes for themselves. Accepted besides: capitals in names,
+r1=, word=, 0x, x and digits; tabs and more blanks; a carriage return at the end of a line; a last
+line without its end; a byte order mark at the start. One blank behind # is dropped. A remark is a
+line of its own: behind a record there is none.
+
+write  writes nothing if a line is no record, and names the line; holds all in memory
+read   shows all records before a bad one, and names it by its ordinal among all records and by
+       its offset in bytes; holds one piece at a time
 
 Exit status: 0 done; 1 a line or a record is bad, or reading or writing failed; 2 wrong usage.
 "#;
@@ -71,6 +80,10 @@ fn read() -> Result<(), Failure> {
     let text = BufWriter::new(io::stdout().lock());
     show(io::stdin().lock(), text).map_err(|error| match error {
         ReadError::Io(error) => failure(error),
+        // Most inputs of another sort have no good record at all.
+        ReadError::Bad(bad) if bad.ordinal == 1 => {
+            Some(format!("{bad}; the input may be no recording"))
+        }
         ReadError::Bad(bad) => Some(bad.to_string()),
     })
 }

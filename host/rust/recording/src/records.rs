@@ -375,13 +375,20 @@ impl Error for Fault {}
 pub struct BadRecord {
     /// Its ordinal among all records, from 1.
     pub ordinal: u64,
+    /// How many bytes of the recording stand before it.
+    pub offset: u64,
     /// What is wrong with it.
     pub fault: Fault,
 }
 
 impl fmt::Display for BadRecord {
     fn fmt(&self, f: &mut fmt::Formatter) -> fmt::Result {
-        write!(f, "bad record {}: {}", self.ordinal, self.fault)
+        let BadRecord {
+            ordinal,
+            offset,
+            fault,
+        } = self;
+        write!(f, "bad record {ordinal} at offset {offset}: {fault}")
     }
 }
 
@@ -393,6 +400,7 @@ pub fn records(recording: &[u8]) -> Records<'_> {
     Records {
         rest: recording,
         ordinal: 0,
+        offset: 0,
     }
 }
 
@@ -401,6 +409,7 @@ pub fn records(recording: &[u8]) -> Records<'_> {
 pub struct Records<'a> {
     rest: &'a [u8],
     ordinal: u64,
+    offset: u64,
 }
 
 impl Iterator for Records<'_> {
@@ -411,17 +420,20 @@ impl Iterator for Records<'_> {
             return None;
         }
         self.ordinal += 1;
-        let decoded = Record::decode(self.rest);
-        self.rest = match decoded {
-            Ok((_, rest)) => rest,
-            Err(_) => &[],
-        };
-        Some(match decoded {
-            Ok((record, _)) => Ok(record),
-            Err(fault) => Err(BadRecord {
-                ordinal: self.ordinal,
-                fault,
-            }),
+        Some(match Record::decode(self.rest) {
+            Ok((record, behind)) => {
+                self.offset += (self.rest.len() - behind.len()) as u64;
+                self.rest = behind;
+                Ok(record)
+            }
+            Err(fault) => {
+                self.rest = &[];
+                Err(BadRecord {
+                    ordinal: self.ordinal,
+                    offset: self.offset,
+                    fault,
+                })
+            }
         })
     }
 }

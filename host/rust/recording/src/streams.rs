@@ -42,19 +42,26 @@ impl From<io::Error> for ReadError {
 /// A bad record, or an error of reading or writing. What stands before it is written.
 pub fn show(mut recording: impl Read, mut text: impl Write) -> Result<(), ReadError> {
     let mut unread = Vec::new();
-    let mut ordinal = 0;
+    let mut place = Place::default();
     loop {
         let kept = unread.len();
         unread.resize(kept + PIECE, 0);
         let count = retried(|| recording.read(&mut unread[kept..]))?;
         unread.truncate(kept + count);
-        let shown = show_piece(&unread, count == 0, &mut ordinal, &mut text);
+        let shown = show_piece(&unread, count == 0, &mut place, &mut text);
         text.flush()?;
         unread.drain(..shown?);
         if count == 0 {
             return Ok(());
         }
     }
+}
+
+/// How many records, and how many bytes of the recording, are shown.
+#[derive(Default)]
+struct Place {
+    records: u64,
+    bytes: u64,
 }
 
 /// Repeats a call that was interrupted.
@@ -72,21 +79,25 @@ fn retried(mut call: impl FnMut() -> io::Result<usize>) -> io::Result<usize> {
 fn show_piece(
     piece: &[u8],
     last: bool,
-    ordinal: &mut u64,
+    place: &mut Place,
     text: &mut impl Write,
 ) -> Result<usize, ReadError> {
     let mut rest = piece;
     while !rest.is_empty() {
         match Record::decode(rest) {
             Ok((record, behind)) => {
-                *ordinal += 1;
                 writeln!(text, "{record}")?;
+                place.records += 1;
+                place.bytes += (rest.len() - behind.len()) as u64;
                 rest = behind;
             }
             Err(Fault::CutShort) if !last => break,
             Err(fault) => {
-                let ordinal = *ordinal + 1;
-                return Err(ReadError::Bad(BadRecord { ordinal, fault }));
+                return Err(ReadError::Bad(BadRecord {
+                    ordinal: place.records + 1,
+                    offset: place.bytes,
+                    fault,
+                }));
             }
         }
     }

@@ -10,6 +10,9 @@ const STORE: &str = "store";
 const SET_PREFIX: &str = "set_prefix";
 const STORE_PREFIX: &str = "store_prefix";
 
+/// How many bytes of what was found a message shows.
+const SHOWN: usize = 40;
+
 /// What is wrong with a text, and in which line.
 #[derive(Clone, Debug, PartialEq, Eq)]
 pub struct TextError {
@@ -30,12 +33,22 @@ impl TextError {
     fn expected(what: &str, found: &[u8]) -> TextError {
         let found = match found {
             [] => "the end of the line".to_string(),
-            word => format!("\"{}\"", Escaped(word)),
+            word => match word.split_at_checked(SHOWN) {
+                None | Some((_, [])) => format!("\"{}\"", Escaped(word)),
+                Some((shown, _)) => format!("\"{}\"...", Escaped(shown)),
+            },
         };
         TextError {
             line: 0,
             message: format!("expected {what}, found {found}"),
         }
+    }
+
+    /// The same with a hint behind it.
+    fn hint(mut self, hint: &str) -> TextError {
+        self.message.push_str("; ");
+        self.message.push_str(hint);
+        self
     }
 }
 
@@ -204,7 +217,8 @@ fn remark(text: &[u8]) -> Result<Record, TextError> {
     let mut rest = text;
     while !rest.is_empty() {
         let byte;
-        (byte, rest) = character(rest)?;
+        (byte, rest) = character(rest)
+            .map_err(|error| error.hint("in a remark too, a backslash is written \\\\"))?;
         remark.push(byte);
     }
     limited(remark, REMARK_MAXIMUM, "a remark").map(Record::Remark)
@@ -329,10 +343,13 @@ impl<'a> Words<'a> {
         if word.is_empty() {
             return Ok(0);
         }
-        let value = word
-            .strip_prefix(name.as_bytes())
-            .and_then(|rest| rest.strip_prefix(b"="));
-        value.and_then(number).ok_or_else(|| {
+        let value = match word.split_at_checked(name.len()) {
+            Some((start, [b'=', value @ ..])) if start.eq_ignore_ascii_case(name.as_bytes()) => {
+                number(value)
+            }
+            _ => None,
+        };
+        value.ok_or_else(|| {
             let what = format!("the end of the line or {name}=, a number up to 0xffffffff");
             TextError::expected(&what, word)
         })
@@ -352,7 +369,11 @@ impl<'a> Words<'a> {
         let digits = word.strip_prefix(b"x").or(word.strip_prefix(b"X"));
         digits.and_then(bytes_of_digits).ok_or_else(|| {
             let what = "data, a text in quotes or pairs of hexadecimal digits behind an x";
-            TextError::expected(what, word)
+            let error = TextError::expected(what, word);
+            if number(word).is_some() && !self.0.trim_ascii().is_empty() {
+                return error.hint("a store has no length of its own, only its data");
+            }
+            error
         })
     }
 }
@@ -428,11 +449,22 @@ fn character(text: &[u8]) -> Result<(u8, &[u8]), TextError> {
     Ok((byte, behind))
 }
 
-/// The text begins with `\` and no escape.
+/// The text begins with `\` and no escape. Of what it begins with, characters are shown.
 fn no_escape(text: &[u8]) -> TextError {
-    let shown = text.get(..4).unwrap_or(text);
-    TextError::expected(
-        "one of the escapes \\n, \\r, \\t, \\\", \\\\ and \\x with two hexadecimal digits",
-        shown,
-    )
+    let shown = match text {
+        [b'\\', b'x', digits @ ..] => {
+            let digits = digits.iter().take_while(|byte| byte.is_ascii_hexdigit());
+            &text[..2 + digits.take(2).count()]
+        }
+        [b'\\', b'!'..=b'~', ..] => &text[..2],
+        _ => b"\\",
+    };
+    let shown = String::from_utf8_lossy(shown);
+    TextError {
+        line: 0,
+        message: format!(
+            "expected one of the escapes \\n, \\r, \\t, \\\", \\\\ and \\x with two hexadecimal \
+             digits, found {shown}"
+        ),
+    }
 }

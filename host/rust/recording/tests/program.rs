@@ -67,10 +67,80 @@ fn errors() {
         parts(&run(&["read"], cut)),
         (
             &b"# a case\nfetch 0 0x0 1\n"[..],
-            "recording: bad record 3: the recording ends inside it\n",
+            "recording: bad record 3 at offset 21: the recording ends inside it\n",
             Some(1)
         )
     );
+}
+
+/// What is no recording has a bad record at its start, most often.
+#[test]
+fn inputs_that_are_no_recording() {
+    for (input, fault) in [
+        (TEXT, "its length is 8227, over 512"),
+        (b"A", "the recording ends inside it"),
+        (b"\x02\x00\x00\x00", "its kind is 0, which there is not"),
+    ] {
+        let message = format!(
+            "recording: bad record 1 at offset 0: {fault}; the input may be no recording\n"
+        );
+        let output = run(&["read"], input);
+        assert_eq!(parts(&output), (&b""[..], message.as_str(), Some(1)));
+    }
+}
+
+/// The offset counts all bytes of a recording that comes in many pieces.
+#[test]
+fn offset_in_a_long_recording() {
+    let recording = [&RECORDING.repeat(20_000)[..], b"\x00\x00"].concat();
+    let output = run(&["read"], &recording);
+    assert_eq!(
+        parts(&output).1,
+        format!(
+            "recording: bad record 60001 at offset {}: its length is 0, too short for a kind\n",
+            20_000 * RECORDING.len()
+        )
+    );
+}
+
+/// The help has every limit, and each is the greatest that the program takes.
+#[test]
+fn limits_of_the_help() {
+    let help = run(&["--help"], b"").stdout;
+    let help = str::from_utf8(&help).expect("text");
+    for limit in [
+        "0 to 255;",
+        "0 to 0xffffffff",
+        "0 to 65535;",
+        "0 to 503 bytes",
+        "0 to 256 bytes",
+    ] {
+        assert!(help.contains(limit), "{limit}");
+    }
+    assert!(help.lines().all(|line| line.len() <= 100), "{help}");
+    let accepted = |line: &str| run(&["write"], line.as_bytes()).status.success();
+    let (data, text) = ("00".repeat(503), "A".repeat(256));
+    for (greatest, over) in [
+        ("fetch 255 0 0".to_string(), "fetch 256 0 0".to_string()),
+        (
+            "fetch 0 0xffffffff 0".to_string(),
+            "fetch 0 0x100000000 0".to_string(),
+        ),
+        ("fetch 0 0 65535".to_string(), "fetch 0 0 65536".to_string()),
+        (
+            "isk 0 0xffffffff 0xffffffff".to_string(),
+            "isk 0 0 0x100000000".to_string(),
+        ),
+        (
+            "set_prefix 0 0xffffffff".to_string(),
+            "set_prefix 0 0x100000000".to_string(),
+        ),
+        (format!("store 0 0 x{data}"), format!("store 0 0 x{data}00")),
+        (format!("# {text}"), format!("# {text}A")),
+    ] {
+        assert!(accepted(&greatest), "{greatest}");
+        assert!(!accepted(&over), "{over}");
+    }
 }
 
 #[test]

@@ -162,6 +162,7 @@ fn damaged_recordings() {
             Some(bad) => {
                 bad_ones += 1;
                 assert_eq!(bad.ordinal, lines + 1);
+                assert_eq!(bad.offset, back.len() as u64);
                 assert_eq!(Record::decode(&recording[back.len()..]), Err(bad.fault));
             }
         }
@@ -218,10 +219,18 @@ fn forms_of_text() {
         ("isk 0 1 2", "isk 0 0x1 0x2"),
         ("rrb 0 4096", "rrb 0 0x1000"),
         ("rrb 0 4096 r1=5", "rrb 0 0x1000 r1=0x5"),
+        ("rrb 0 4096 R1=0X5", "rrb 0 0x1000 r1=0x5"),
         ("rrbe 255 4096 r1=0", "rrbe 255 0x1000"),
+        ("Rrbe 1 4096 R1=7", "rrbe 1 0x1000 r1=0x7"),
         ("set_prefix 0 4294967295", "set_prefix 0 0xffffffff"),
         ("store_prefix 1", "store_prefix 1"),
         ("store_prefix 1 word=0x10", "store_prefix 1 word=0x10"),
+        ("STORE_PREFIX 1 Word=16", "store_prefix 1 word=0x10"),
+        ("fetch 010 010 010", "fetch 10 0xa 10"),
+        ("\u{feff}fetch 0 0 1", "fetch 0 0x0 1"),
+        ("\u{feff}\r\n\tfetch 0 0 1\r\n\r\n", "fetch 0 0x0 1"),
+        ("\u{feff}# \u{feff}", "# \\xef\\xbb\\xbf"),
+        ("# a\r\n", "# a"),
         ("#", "#"),
         ("# ", "#"),
         ("#remark", "# remark"),
@@ -232,26 +241,27 @@ fn forms_of_text() {
         assert_eq!(decode(&recording), (format!("{shown}\n"), None), "{text}");
         assert_eq!(encode(shown.as_bytes()), Ok(recording), "{shown}");
     }
-    for blank in ["", "\n", "  \n\t\r\n"] {
+    for blank in ["", "\n", "  \n\t\r\n", "\u{feff}", "\u{feff}\n"] {
         assert_eq!(encode(blank.as_bytes()), Ok(Vec::new()));
     }
 }
 
 #[test]
 fn errors_in_text() {
+    let names = "expected fetch, store, isk, ssk, rrb, iske, sske, rrbe, set_prefix, \
+                 store_prefix or #";
     let escapes =
         "expected one of the escapes \\n, \\r, \\t, \\\", \\\\ and \\x with two hexadecimal digits";
     let data = "expected data, a text in quotes or pairs of hexadecimal digits behind an x";
+    let in_a_remark = "; in a remark too, a backslash is written \\\\";
+    let no_length = "; a store has no length of its own, only its data";
+    let end = "expected the end of the line";
     for (line, message) in [
-        (
-            "fitch 0 0 1",
-            "expected fetch, store, isk, ssk, rrb, iske, sske, rrbe, set_prefix, store_prefix or #, \
-             found \"fitch\"",
-        ),
         (
             "fetch",
             "expected a processor, a number up to 255, found the end of the line",
         ),
+        ("fitch 0 0 1", &format!("{names}, found \"fitch\"")),
         (
             "fetch 256 0 1",
             "expected a processor, a number up to 255, found \"256\"",
@@ -295,6 +305,41 @@ fn errors_in_text() {
         ),
         ("store 0 0", &format!("{data}, found the end of the line")),
         ("store 0 0 41", &format!("{data}, found \"41\"")),
+        ("store 0 0 41 ", &format!("{data}, found \"41\"")),
+        (
+            "store 0 0 3 \"ABC\"",
+            &format!("{data}, found \"3\"{no_length}"),
+        ),
+        (
+            "store 0 0 0x3 x414243",
+            &format!("{data}, found \"0x3\"{no_length}"),
+        ),
+        ("store 0 0 ABC \"ABC\"", &format!("{data}, found \"ABC\"")),
+        ("fetch 0 0 1 # a remark", &format!("{end}, found \"#\"")),
+        (
+            &format!("fetch 0 0 1 {}", "A".repeat(40)),
+            &format!("{end}, found \"{}\"", "A".repeat(40)),
+        ),
+        (
+            &format!("fetch 0 0 1 {}", "A".repeat(41)),
+            &format!("{end}, found \"{}\"...", "A".repeat(40)),
+        ),
+        (
+            &format!("store 0 0 \"A\"{}", "\\".repeat(100_000)),
+            &format!("{end}, found \"{}\"...", "\\".repeat(80)),
+        ),
+        (
+            "store_prefix 0 wor",
+            "expected the end of the line or word=, a number up to 0xffffffff, found \"wor\"",
+        ),
+        (
+            "rrb 0 1 R1=x",
+            "expected the end of the line or r1=, a number up to 0xffffffff, found \"R1=x\"",
+        ),
+        (
+            "\u{feff}fetch 0 0 1",
+            &format!("{names}, found \"\\xef\\xbb\\xbffetch\""),
+        ),
         ("store 0 0 x414", &format!("{data}, found \"x414\"")),
         (
             "store 0 0 \"A",
@@ -304,12 +349,19 @@ fn errors_in_text() {
             "store 0 0 \"A\"B",
             "expected the end of the line, found \"B\"",
         ),
+        ("store 0 0 \"A\\x4\"", &format!("{escapes}, found \\x4")),
+        ("store 0 0 \"A\\xg4\"", &format!("{escapes}, found \\x")),
+        ("store 0 0 \"\\N\"", &format!("{escapes}, found \\N")),
+        ("store 0 0 \"\\", &format!("{escapes}, found \\")),
+        ("# \\q", &format!("{escapes}, found \\q{in_a_remark}")),
         (
-            "store 0 0 \"A\\x4\"",
-            &format!("{escapes}, found \"\\\\x4\\\"\""),
+            "# C:\\temp\\queue",
+            &format!("{escapes}, found \\q{in_a_remark}"),
         ),
-        ("# \\q", &format!("{escapes}, found \"\\\\q\"")),
-        ("# \\", &format!("{escapes}, found \"\\\\\"")),
+        ("# \\x4", &format!("{escapes}, found \\x4{in_a_remark}")),
+        ("# \\ a", &format!("{escapes}, found \\{in_a_remark}")),
+        ("# \\\u{e9}", &format!("{escapes}, found \\{in_a_remark}")),
+        ("# \\", &format!("{escapes}, found \\{in_a_remark}")),
         (
             &format!("# {}", "A".repeat(257)),
             "expected at most 256 bytes in a remark, found 257",
@@ -361,13 +413,15 @@ fn faults_of_records() {
         let (text, bad) = decode(&[&fetch, bytes].concat());
         assert_eq!(text, "fetch 0 0x0 1\n");
         let bad = bad.expect(message);
-        assert_eq!(bad.to_string(), format!("bad record 2: {message}"));
+        let message = format!("bad record 2 at offset 11: {message}");
+        assert_eq!(bad.to_string(), message);
     }
     let remark = [&[3, 1, 255, 0][..], &[0; 257]].concat();
     assert_eq!(
         decode(&remark).1,
         Some(BadRecord {
             ordinal: 1,
+            offset: 0,
             fault: Fault::Remark(257)
         })
     );

@@ -13,6 +13,7 @@ pub mod Playing
 pub mod Judged
 pub mod Runs
 pub mod Sentences
+pub mod FiveNumbers
 pub mod Parts
 pub mod Stopping
 pub mod Pieces

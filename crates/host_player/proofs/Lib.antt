@@ -1,3 +1,4 @@
 -- Laws of a player as bytes, and of a call.
 pub mod Numbers
+pub mod Fields
 pub mod Calls

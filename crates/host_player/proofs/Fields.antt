@@ -107,15 +107,14 @@ module _ (at : ℕ) (q : Processor) (b : List ℕ) (room : at + 8 ≤ length b) 
       ∙ sym (one coded (at + 2)) ∙ put-there 1 (at + 2) (q .code) b (omega arith) (omega arith))
       (sym (prefix-is (putRecord at q b) at) ∙ put-there 4 (at + 4) (q .prefix) coded coded-room (omega arith))
 
-  -- other fields and other records
-  pub little-beside : (m a : ℕ) → Apart m a 8 at → little m (putRecord at q b) a ≡ little m b a
-  little-beside m a h =
-      little-same m (putRecord at q b) b a a (λ i l. kept (a + i) (code-apart m a i l h) (prefix-apart m a i l h))
+  -- another record
+  pub record-beside : (a : ℕ) → Apart 8 a 8 at → recordAt (putRecord at q b) a ≡ recordAt b a
+  record-beside a h = same-record (putRecord at q b) b a a (λ i l. kept (a + i) (code-apart i l h) (prefix-apart i l h))
     where
-      code-apart : (m a i : ℕ) → i < m → Apart m a 8 at → Apart 1 (a + i) 1 (at + 2)
-      code-apart m a i h (inl l) = inl (omega arith)
-      code-apart m a i h (inr l) = inr (omega arith)
+      code-apart : (i : ℕ) → i < 8 → Apart 8 a 8 at → Apart 1 (a + i) 1 (at + 2)
+      code-apart i h (inl l) = inl (omega arith)
+      code-apart i h (inr l) = inr (omega arith)
 
-      prefix-apart : (m a i : ℕ) → i < m → Apart m a 8 at → Apart 1 (a + i) 4 (at + 4)
-      prefix-apart m a i h (inl l) = inl (omega arith)
-      prefix-apart m a i h (inr l) = inr (omega arith)
+      prefix-apart : (i : ℕ) → i < 8 → Apart 8 a 8 at → Apart 1 (a + i) 4 (at + 4)
+      prefix-apart i h (inl l) = inl (omega arith)
+      prefix-apart i h (inr l) = inr (omega arith)

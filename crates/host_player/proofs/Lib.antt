@@ -1,4 +1,5 @@
 -- Laws of a player as bytes, and of a call.
 pub mod Numbers
 pub mod Fields
+pub mod Left
 pub mod Calls

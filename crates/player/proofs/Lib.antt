@@ -17,6 +17,8 @@ pub mod FiveNumbers
 pub mod Parts
 pub mod Stopping
 pub mod Pieces
+-- What playing keeps
+pub mod Kept
 -- The case that 02 gives
 pub mod GivenCase
 -- A run, computed

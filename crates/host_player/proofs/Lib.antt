@@ -3,3 +3,4 @@ pub mod Numbers
 pub mod Fields
 pub mod Left
 pub mod Calls
+pub mod NextCall

@@ -1,14 +1,14 @@
 -- What playing keeps. A property of the run so far that a request and any other record keep is kept by a call of `play`, record after record: so
 -- of the records of the processors condition code and prefix only change, and numbers that fit their bytes still do. Assumes nothing.
-use Prim.Native.Nat.{ℕ, zero, suc, _+_, _-_, _≤_, _<_}
+use Prim.Native.Nat.{ℕ, zero, suc, _+_, _-_, _*_, _^_, _/_, _%_, _≤_, _<_}
 use native.Mathlib.Omega.{arith}
 use mathlib.Core.Path.{_≡_, refl, sym, ap, _∙_, subst}
-use mathlib.Core.Bool.{Bool, true, false, cond, _||_}
-use mathlib.Core.List.{List, [], _∷_}
+use mathlib.Core.Bool.{Bool, true, false, cond, not, _||_}
+use mathlib.Core.List.{List, [], _∷_, _++_}
 use mathlib.Core.Option.{some}
-use lib.ListN.{length, getD, set, getElem?, drop, length-set, length-drop}
-use lib.Dec.{eqb, leb, ltb}
-use borrow.Author.Tests.{eqb-false}
+use lib.ListN.{length, getD, set, getElem?, drop, length-set, length-drop, length-append}
+use lib.Dec.{leb, ltb}
+use borrow.Author.Tests.{lt-ltb, ltb-false}
 use Rattle.machine.specs.declared.Settings.{Settings}
 use Rattle.machine.specs.declared.Processor.{Processor}
 use Rattle.machine.specs.declared.Request.{Request}
@@ -16,21 +16,26 @@ use Rattle.machine.specs.declared.Request.the-variants.{Access, Key, Prefix}
 use Rattle.machine.specs.declared.PrefixInstruction.the-variants.{SetPrefix, StorePrefix}
 use Rattle.machine.specs.declared.KeyOperation.{KeyOperation}
 use Rattle.machine.specs.declared.KeyOperation.the-variants.{Insert, Set, Reset}
+use Rattle.machine.specs.declared.Reason.the-variants.{Configuration, Record}
+use Rattle.machine.specs.declared.Verdict.the-variants.{Stop}
+use Rattle.machine.specs.Numbers.{lengthsValid}
+use Rattle.machine.specs.Answers.{values, answerOf, line, firstOf}
 use Rattle.machine.specs.Key.{codeOf}
 use Rattle.machine.specs.KeyInstructions.{operation, twoKeys, firstUnit, codeLeft}
 use Rattle.machine.specs.Step.{withCode, withPrefix, completed, step}
 use Rattle.machine.specs.Pair.{pairStep}
-use Rattle.machine.specs.Turns.{Turn}
-use Rattle.machine.proofs.Requests.{either-way, controls-stay}
+use Rattle.machine.specs.Turns.{State, Turn, given}
+use Rattle.machine.proofs.Requests.{number-of-reason, by-verdict, either-way, completed-number, controls-stay}
+use Rattle.machine.proofs.AnswerPlace.{place-below-256}
 use Rattle.machine.proofs.Pairs.{by-record, has-record}
 use Rattle.trace.specs.declared.Read.{Read}
 use Rattle.trace.specs.declared.Read.the-variants.{Request as ARequest, Remark, Bad, End}
 use Rattle.trace.specs.Trace.{readOf}
 use Rattle.player.specs.declared.Status.the-variants.{Passed, More, Ended, Room, Limit}
-use Rattle.player.specs.Text.{badText}
+use Rattle.player.specs.Text.{decimalIn, decimalOf, blank, lineEnd, lineText, badText}
 use Rattle.player.specs.Run.{Progress, startRecord, afterRequest, afterOther, turnOf}
 use Rattle.player.specs.Play.{Left, left, requestPlayed, badPlayed, readPlayed, ordinalsUsed, recordPlayed, passes, then, played}
-use Rattle.player.proofs.Records.{neither}
+use Rattle.player.proofs.Records.{ordinals-left}
 use Rattle.player.proofs.Playing.{record-fits}
 
 module _ (s : Settings) (P : Progress → Type 0)
@@ -147,19 +152,13 @@ pub record NumbersFit (ps : List Processor) (n m : ℕ) : Type 0 where
 abbrev pub ProgressFits : Progress → Type 0
 ProgressFits p = NumbersFit (p .state .processors) (p .requests) (p .records)
 
-ordinals-left : (p : Progress) → ordinalsUsed p ≡ false → ProgressFits p → (p .requests + 1 < 18446744073709551616) × (p .records + 1 < 18446744073709551616)
-ordinals-left p u h =
-    let (a, b) = neither (eqb (p .records) 18446744073709551615) (eqb (p .requests) 18446744073709551615) u in
-    (last-left (p .requests) b (h .requests), last-left (p .records) a (h .records))
-  where
-    last-left : (n : ℕ) → eqb n 18446744073709551615 ≡ false → n < 18446744073709551616 → n + 1 < 18446744073709551616
-    last-left n e l = omega (arith, eqb-false n 18446744073709551615 e)
+counted : (p : Progress) → ordinalsUsed p ≡ false → ProgressFits p → (p .requests + 1 < 18446744073709551616) × (p .records + 1 < 18446744073709551616)
+counted p u h =
+    let (a, b) = ordinals-left (p .records) (p .requests) u (omega (arith, h .records)) (omega (arith, h .requests)) in
+    (omega arith, omega arith)
 
-pub playing-fits : (n : ℕ) (s : Settings) (last : Bool) (room : ℕ) (p : Progress) (bytes : List ℕ) → ProgressFits p
-    → ProgressFits (played n s last room p bytes .progress)
-playing-fits n s last room p bytes fits =
-    playing-keeps s ProgressFits
-    (λ q t u h.
+request-fits : (s : Settings) (q : Progress) (t : Turn) → ordinalsUsed q ≡ false → ProgressFits q → ProgressFits (afterRequest s q t)
+request-fits s q t u h =
     let m = q .state in
     record {
       each = λ i.
@@ -167,11 +166,20 @@ playing-fits n s last room p bytes fits =
           (t .buffer)
           (λ x. step-fits s (m .storage) (m .keys) x (t .request) (t .buffer)) i startRecord
           (h .each i);
-      requests = ordinals-left q u h .0;
-      records = ordinals-left q u h .1;
-    })
-    (λ q u h. record { each = h .each; requests = h .requests; records = ordinals-left q u h .1 })
-    n last room p bytes fits
+      requests = counted q u h .0;
+      records = counted q u h .1;
+    }
+
+other-fits : (q : Progress) → ordinalsUsed q ≡ false → ProgressFits q → ProgressFits (afterOther q)
+other-fits q u h = record { each = h .each; requests = h .requests; records = counted q u h .1 }
+
+record-still-fits : (s : Settings) (last : Bool) (room : ℕ) (p : Progress) (bytes : List ℕ) → ProgressFits p
+    → ProgressFits (recordPlayed s last room p bytes .progress)
+record-still-fits s last room p bytes fits = record-keeps s ProgressFits (request-fits s) other-fits last room p bytes fits
+
+pub playing-fits : (n : ℕ) (s : Settings) (last : Bool) (room : ℕ) (p : Progress) (bytes : List ℕ) → ProgressFits p
+    → ProgressFits (played n s last room p bytes .progress)
+playing-fits n s last room p bytes fits = playing-keeps s ProgressFits (request-fits s) other-fits n last room p bytes fits
 
 -- what a call reads lies within the bytes
 chosen-within : (o next : Left) (bytes : List ℕ) (b : Bool) → o .read ≤ length bytes → next .read ≤ length (drop (o .read) bytes)
@@ -188,3 +196,87 @@ reads-within (suc n) s last room p bytes =
     let rest : List ℕ = drop (o .read) bytes in
     chosen-within o (played n s last left-over (o .progress) rest) bytes (passes (o .status)) (record-fits s last room p bytes)
     (reads-within n s last left-over (o .progress) rest)
+
+-- A line has less than 64 bytes, and so a call keeps to its room. A number below a power of ten has at most so many digits.
+digit-more : (j n : ℕ) (xs : List ℕ) (b : Bool) → length xs ≤ j → length (cond b ((48 + n) ∷ []) (xs ++ ((48 + n % 10) ∷ []))) ≤ suc j
+digit-more j n xs true h = omega arith
+digit-more j n xs false h = omega (arith, length-append xs ((48 + n % 10) ∷ []))
+
+digits-few : (j k n : ℕ) → n < 10 ^ (suc j) → length (decimalIn k n) ≤ suc j
+unfolding decimalIn
+digits-few j zero n h = omega arith
+digits-few zero (suc k) n h = rw (lt-ltb n 10 (omega arith)) (omega arith)
+digits-few (suc j) (suc k) n h = digit-more (suc j) n (decimalIn k (n / 10)) (ltb n 10) (digits-few j k (n / 10) (omega arith))
+
+line-short : (ordinal number place : ℕ) → ordinal < 18446744073709551616 → number ≤ 66 → place < 256 → length (lineText ordinal number place) ≤ 64
+unfolding lineText
+line-short ordinal number place h k l =
+    let a : length (decimalOf ordinal) ≤ 20 = digits-few 19 (suc ordinal) ordinal (omega arith) in
+    let b : length (decimalOf number) ≤ 2 = digits-few 1 (suc number) number (omega arith) in
+    let c : length (decimalOf place) ≤ 3 = digits-few 2 (suc place) place (omega arith) in
+    simp length-append (omega arith)
+
+bad-short : (ordinal : ℕ) → ordinal < 18446744073709551616 → length (badText ordinal) ≤ 64
+unfolding badText
+bad-short ordinal h =
+    let a : length (decimalOf ordinal) ≤ 20 = digits-few 19 (suc ordinal) ordinal (omega arith) in
+    simp length-append (omega arith)
+
+-- number and place of an answer
+answer-small : (s : Settings) (m : State) (t : Turn) → (given s m t .answer .number ≤ 66) × (given s m t .answer .place < 256)
+unfolding firstOf line
+answer-small s m t =
+    by-record s (m .storage) (m .keys) (m .processors) (t .processorNumber) (t .request) (t .buffer)
+    (λ o. (o .answer .number ≤ 66) × (o .answer .place < 256))
+    (λ e. without (lengthsValid s (length (m .storage)) (length (m .keys))))
+    (λ p e.
+    (by-verdict s (m .storage) (m .keys) p (t .request) (t .buffer) (λ o. o .answer .number ≤ 66) (λ reason place f. number-of-reason reason .1)
+    (λ f. omega (arith, completed-number s (m .storage) (m .keys) p (t .request) (t .buffer) (t .request))),
+    place-below-256 s (m .storage) (m .keys) p (t .request) (t .buffer)))
+  where
+    without : (b : Bool)
+        → (values (answerOf (firstOf (line Configuration (not b)) (Stop Record 0)) 0 0) .number ≤ 66)
+        × (values (answerOf (firstOf (line Configuration (not b)) (Stop Record 0)) 0 0) .place < 256)
+    without true = (omega arith, omega arith)
+    without false = (omega arith, omega arith)
+
+read-short : (s : Settings) (last : Bool) (p : Progress) (bytes : List ℕ) (found : Read) → ordinalsUsed p ≡ false → ProgressFits p
+    → length (readPlayed found s last p bytes .text) ≤ 64
+unfolding readPlayed requestPlayed badPlayed
+read-short s last p bytes (ARequest n r size) u h =
+    let a = answer-small s (p .state) (turnOf n r bytes size) in
+    line-short (p .requests + 1) _ _ (counted p u h .0) (a .0) (a .1)
+read-short s last p bytes (Remark size) u h = omega arith
+read-short s last p bytes Bad u h = go (last || leb 514 (length bytes))
+  where
+    go : (b : Bool) → length (cond b (left (badText (p .records + 1)) (afterOther p) 0 Ended) (left [] p 0 More) .text) ≤ 64
+    go true = bad-short (p .records + 1) (counted p u h .1)
+    go false = omega arith
+read-short s last p bytes End u h = omega arith
+
+record-within : (s : Settings) (last : Bool) (room : ℕ) (p : Progress) (bytes : List ℕ) → ProgressFits p
+    → length (recordPlayed s last room p bytes .text) ≤ room
+unfolding recordPlayed
+record-within s last room p bytes h = go (ltb room 64) (ordinalsUsed p) refl refl
+  where
+    go : (full used : Bool) → ltb room 64 ≡ full → ordinalsUsed p ≡ used
+        → length (cond full (left [] p 0 Room) (cond used (left [] p 0 Limit) (readPlayed (readOf bytes) s last p bytes)) .text) ≤ room
+    go true used e u = omega arith
+    go false true e u = omega arith
+    go false false e u = omega (arith, ltb-false room 64 e, read-short s last p bytes (readOf bytes) u h)
+
+all-within : (o next : Left) (room : ℕ) (b : Bool) → length (o .text) ≤ room → length (next .text) ≤ room - length (o .text)
+    → length (cond b (then o next) o .text) ≤ room
+all-within o next room true h k = omega (arith, length-append (o .text) (next .text))
+all-within o next room false h k = h
+
+pub writes-within : (n : ℕ) (s : Settings) (last : Bool) (room : ℕ) (p : Progress) (bytes : List ℕ) → ProgressFits p
+    → length (played n s last room p bytes .text) ≤ room
+unfolding played
+writes-within zero s last room p bytes h = omega arith
+writes-within (suc n) s last room p bytes h =
+    let o : Left = recordPlayed s last room p bytes in
+    let left-over : ℕ = room - length (o .text) in
+    let rest : List ℕ = drop (o .read) bytes in
+    all-within o (played n s last left-over (o .progress) rest) room (passes (o .status)) (record-within s last room p bytes h)
+    (writes-within n s last left-over (o .progress) rest (record-still-fits s last room p bytes h))

@@ -4,3 +4,5 @@ pub mod Fields
 pub mod Left
 pub mod Calls
 pub mod NextCall
+pub mod Recordings
+pub mod Rows

@@ -15,7 +15,7 @@ use Rattle.player.specs.declared.Player.{Player}
 use Rattle.player.specs.declared.Played.{Played}
 use Rattle.player.specs.Run.{startRecord}
 use Rattle.player.specs.Play.{progressOf, Left, played, PlayOutcome, playOutcomeOf}
-use Rattle.player.proofs.Kept.{ControlsKept, RecordFits, ProgressFits, playing-keeps-controls, playing-fits, reads-within}
+use Rattle.player.proofs.Kept.{ControlsKept, RecordFits, ProgressFits, playing-keeps-controls, playing-fits, reads-within, writes-within}
 use Rattle.host_player.specs.Playing.{playerIn, playerLeft, PlayCall, answered, callPlayed, playCalled}
 use Rattle.host_player.proofs.Left.{PlayerFits, left-is-read, left-has-48, read-is-read, written-is-read}
 
@@ -55,7 +55,7 @@ module _ (settings : ℕ) (storage keys player piece : List ℕ) (last : ℕ) (o
     pub call-leaves-48 : length (after .player) ≡ 48
     call-leaves-48 = ap length left ∙ left-has-48 answer player sized kept
 
-    -- the counts of the call
+    -- the count of bytes read
     pub call-read : length piece < 18446744073709551616 → little 8 (after .player) 32 ≡ stopped .read
     call-read h =
         ap (λ (b : List ℕ). little 8 b 32) left
@@ -63,11 +63,16 @@ module _ (settings : ℕ) (storage keys player piece : List ℕ) (last : ℕ) (o
         (omega (arith,
         reads-within (length piece + 1) (settingsOf settings) (not (eqb last 0)) (length output) (progressOf (playerIn player) storage keys) piece))
 
-    pub call-written : length (stopped .text) < 18446744073709551616 → little 8 (after .player) 40 ≡ length (stopped .text)
-    call-written h = ap (λ (b : List ℕ). little 8 b 40) left ∙ written-is-read answer player sized kept h
-
-    -- the player
+    -- the count of bytes written, and the player
     module _ (fits : PlayerFits (playerIn player)) where
+      pub call-written : length output < 18446744073709551616 → little 8 (after .player) 40 ≡ length (stopped .text)
+      call-written h =
+          ap (λ (b : List ℕ). little 8 b 40) left
+          ∙ written-is-read answer player sized kept
+          (omega (arith,
+          writes-within (length piece + 1) (settingsOf settings) (not (eqb last 0)) (length output) (progressOf (playerIn player) storage keys) piece
+          fits))
+
       pub still-fits : ProgressFits (stopped .progress)
       still-fits =
           playing-fits (length piece + 1) (settingsOf settings) (not (eqb last 0)) (length output) (progressOf (playerIn player) storage keys) piece fits

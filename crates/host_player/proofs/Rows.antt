@@ -1,0 +1,87 @@
+-- Rows: the player at the start, the 48 bytes of a player read and written field by field, and the calls that are refused. All but the last are
+-- computed. Assumes nothing.
+use Prim.Native.Nat.{ℕ, _≤_, _<_}
+use native.Mathlib.Decide.{decLt}
+use native.Mathlib.Omega.{arith}
+use mathlib.Core.Path.{_≡_, refl, sym}
+use mathlib.Core.Bool.{true, false}
+use mathlib.Core.List.{List, [], _∷_}
+use lib.ListN.{length, replicate}
+use Rattle.machine.specs.declared.Processor.{Processor}
+use Rattle.house_record.specs.Little.{little, littleBytes}
+use Rattle.player.specs.declared.Player.{Player}
+use Rattle.player.specs.declared.Played.{Played}
+use Rattle.player.specs.declared.Status.the-variants.{Room}
+use Rattle.player.specs.Text.{pasted}
+use Rattle.player.specs.Play.{startPlayer}
+use Rattle.host_player.specs.Playing.{playerIn, playerLeft, playCall, playCalled}
+use Rattle.host_player.proofs.Calls.{settings-refused, player-refused}
+
+-- 48 zero bytes are the player at the start of a run
+pub zeros-are-the-start : playerIn (replicate 48 0) ≡ startPlayer
+unfolding little
+zeros-are-the-start = refl
+
+-- a player with another number in every field, and its bytes
+abbrev firstRecord : Processor
+firstRecord =
+    record { «psw_key» = 3; problem = true; «low_protection» = false; «key_control» = true; prefix = 67305985; code = 2 }
+
+abbrev secondRecord : Processor
+secondRecord =
+    record { «psw_key» = 7; problem = false; «low_protection» = true; «key_control» = false; prefix = 134678021; code = 1 }
+
+abbrev aPlayer : Player
+aPlayer = record { processors = firstRecord ∷ secondRecord ∷ []; requests = 1157159078456920585; records = 1735880461161533969 }
+
+abbrev aPlayed : Played
+aPlayed = record { player = aPlayer; read = 2314601843866147353; written = 2893323226570760737; status = Room }
+
+abbrev itsBytes : List ℕ
+itsBytes =
+    3 ∷ 5 ∷ 2 ∷ 0 ∷ 1 ∷ 2 ∷ 3 ∷ 4
+    ∷ 7 ∷ 2 ∷ 1 ∷ 0 ∷ 5 ∷ 6 ∷ 7 ∷ 8
+    ∷ 9 ∷ 10 ∷ 11 ∷ 12 ∷ 13 ∷ 14 ∷ 15 ∷ 16
+    ∷ 17 ∷ 18 ∷ 19 ∷ 20 ∷ 21 ∷ 22 ∷ 23 ∷ 24
+    ∷ 25 ∷ 26 ∷ 27 ∷ 28 ∷ 29 ∷ 30 ∷ 31 ∷ 32
+    ∷ 33 ∷ 34 ∷ 35 ∷ 36 ∷ 37 ∷ 38 ∷ 39 ∷ 40 ∷ []
+
+-- the same records before the call, with other condition codes and prefixes, and any counts
+abbrev bytesBefore : List ℕ
+bytesBefore =
+    3 ∷ 5 ∷ 99 ∷ 0 ∷ 90 ∷ 90 ∷ 90 ∷ 90
+    ∷ 7 ∷ 2 ∷ 98 ∷ 0 ∷ 91 ∷ 91 ∷ 91 ∷ 91
+    ∷ 255 ∷ 255 ∷ 255 ∷ 255 ∷ 255 ∷ 255 ∷ 255 ∷ 255
+    ∷ 255 ∷ 255 ∷ 255 ∷ 255 ∷ 255 ∷ 255 ∷ 255 ∷ 255
+    ∷ 255 ∷ 255 ∷ 255 ∷ 255 ∷ 255 ∷ 255 ∷ 255 ∷ 255
+    ∷ 255 ∷ 255 ∷ 255 ∷ 255 ∷ 255 ∷ 255 ∷ 255 ∷ 255 ∷ []
+
+pub fields-read : playerIn itsBytes ≡ aPlayer
+unfolding little
+fields-read = refl
+
+pub fields-left : playerLeft aPlayed bytesBefore ≡ itsBytes
+unfolding playerLeft pasted littleBytes
+fields-left = refl
+
+-- the calls that are refused, whatever else they are given: result 4, and all is kept
+module _ (storage keys piece : List ℕ) (last : ℕ) (output : List ℕ) where
+  pub settings-4-refused : (player : List ℕ) → playCalled 4 storage keys player piece last output ≡ playCall 4 storage keys player output
+  unfolding playCalled
+  settings-4-refused player = refl
+
+  pub not-48-refused : (settings : ℕ) (player : List ℕ) → (length player ≡ 48 → ⊥)
+      → playCalled settings storage keys player piece last output ≡ playCall 4 storage keys player output
+  not-48-refused settings player other = go (decLt settings 4)
+    where
+      go : Dec (settings < 4) → playCalled settings storage keys player piece last output ≡ playCall 4 storage keys player output
+      go (yes few) = sym (player-refused settings storage keys player piece last output few other)
+      go (no many) = sym (settings-refused settings storage keys player piece last output (omega arith))
+
+  pub «47-refused» : (settings : ℕ) (player : List ℕ) → length player ≡ 47
+      → playCalled settings storage keys player piece last output ≡ playCall 4 storage keys player output
+  «47-refused» settings player e = not-48-refused settings player (λ f. omega arith)
+
+  pub «49-refused» : (settings : ℕ) (player : List ℕ) → length player ≡ 49
+      → playCalled settings storage keys player piece last output ≡ playCall 4 storage keys player output
+  «49-refused» settings player e = not-48-refused settings player (λ f. omega arith)

@@ -1,8 +1,8 @@
 -- The next call begins where this one stopped: playing changes of the records condition code and prefix only, all numbers keep to their fields, and
 -- so the player that is left is read again. Where the bytes of the player are bytes, nothing else is asked. Assumes nothing.
-use Prim.Native.Nat.{ℕ, zero, suc, _+_, _*_, _≤_, _<_}
+use Prim.Native.Nat.{ℕ, zero, suc, _+_, _<_}
 use native.Mathlib.Omega.{arith}
-use mathlib.Core.Path.{_≡_, refl, sym, ap, _∙_, subst}
+use mathlib.Core.Path.{_≡_, refl, ap, _∙_}
 use mathlib.Core.Bool.{not}
 use mathlib.Core.List.{List}
 use lib.ListN.{length, getD}
@@ -13,17 +13,17 @@ use Rattle.house_record.specs.Little.{little}
 use Rattle.house_record.proofs.LittleBytes.{Bytes, little-bound}
 use Rattle.player.specs.declared.Player.{Player}
 use Rattle.player.specs.declared.Played.{Played}
-use Rattle.player.specs.Run.{startRecord}
-use Rattle.player.specs.Play.{progressOf, Left, played, PlayOutcome, playOutcomeOf}
+use Rattle.player.specs.Run.{startProcessor}
+use Rattle.player.specs.Play.{progressOf, Left, played, playOutcomeOf}
 use Rattle.player.proofs.Kept.{ControlsKept, RecordFits, ProgressFits, playing-keeps-controls, playing-fits, reads-within, writes-within}
 use Rattle.host_player.specs.Playing.{playerIn, playerLeft, PlayCall, answered, callPlayed, playCalled}
-use Rattle.host_player.proofs.Left.{PlayerFits, left-is-read, left-has-48, read-is-read, written-is-read}
+use Rattle.host_player.proofs.PlayerLeft.{PlayerFits, left-is-read, left-has-48, read-is-read, written-is-read}
 
 -- a player that is read from bytes has numbers that fit
 pub bytes-fit : (b : List ℕ) → Bytes b → PlayerFits (playerIn b)
 bytes-fit b bytes = record { each = each; requests = little-bound b bytes 8 16; records = little-bound b bytes 8 24 }
   where
-    each : (i : ℕ) → RecordFits (getD (playerIn b .processors) i startRecord)
+    each : (i : ℕ) → RecordFits (getD (playerIn b .processors) i startProcessor)
     each zero = (bytes 2, omega (arith, bytes 4, bytes 5, bytes 6, bytes 7))
     each (suc zero) = (bytes 10, omega (arith, bytes 12, bytes 13, bytes 14, bytes 15))
     each (suc (suc i)) = (omega arith, omega arith)
@@ -60,8 +60,10 @@ module _ (settings : ℕ) (storage keys player piece : List ℕ) (last : ℕ) (o
     call-read h =
         ap (λ (b : List ℕ). little 8 b 32) left
         ∙ read-is-read answer player sized kept
-        (omega (arith,
-        reads-within (length piece + 1) (settingsOf settings) (not (eqb last 0)) (length output) (progressOf (playerIn player) storage keys) piece))
+        (omega (
+          arith,
+          reads-within (length piece + 1) (settingsOf settings) (not (eqb last 0)) (length output) (progressOf (playerIn player) storage keys) piece,
+        ))
 
     -- the count of bytes written, and the player
     module _ (fits : PlayerFits (playerIn player)) where
@@ -69,9 +71,11 @@ module _ (settings : ℕ) (storage keys player piece : List ℕ) (last : ℕ) (o
       call-written h =
           ap (λ (b : List ℕ). little 8 b 40) left
           ∙ written-is-read answer player sized kept
-          (omega (arith,
-          writes-within (length piece + 1) (settingsOf settings) (not (eqb last 0)) (length output) (progressOf (playerIn player) storage keys) piece
-          fits))
+          (omega (
+            arith,
+            writes-within (length piece + 1) (settingsOf settings) (not (eqb last 0)) (length output) (progressOf (playerIn player) storage keys) piece
+                fits,
+          ))
 
       pub still-fits : ProgressFits (stopped .progress)
       still-fits =

@@ -1,7 +1,7 @@
 -- A recording that is given in pieces, call after call over bytes, is played as the whole: each call begins where the one before it stopped, and so
 -- the calls are those of the player. Nothing passes from a call to the next but storage, keys, the 48 bytes, and the bytes of the piece that by
 -- its count are not read. Assumes nothing.
-use Prim.Native.Nat.{ℕ, zero, suc, _+_, _≤_, _<_}
+use Prim.Native.Nat.{ℕ, zero, suc, _+_, _<_}
 use native.Mathlib.Omega.{arith}
 use mathlib.Core.Path.{_≡_, refl, sym, ap, _∙_, subst}
 use mathlib.Core.Bool.{Bool, true, false, cond, not}
@@ -9,19 +9,18 @@ use mathlib.Core.List.{List, [], _∷_, _++_}
 use lib.ListN.{length, getD, take, drop, replicate, length-append, length-drop}
 use lib.Seq.{take-at}
 use lib.Dec.{eqb}
-use Rattle.machine.specs.Turns.{State}
 use Rattle.house_record.specs.Little.{little}
 use Rattle.player.specs.declared.Status.{Status}
 use Rattle.player.specs.declared.Status.the-variants.{Passed, More, Ended, Room, Limit}
 use Rattle.player.specs.Text.{over}
-use Rattle.player.specs.Run.{Progress, startRecord, startSettings, startProgress, startState, textOf, recording}
+use Rattle.player.specs.Run.{Progress, startProcessor, startSettings, startProgress, startState, textOf, runOf}
 use Rattle.player.specs.Play.{stateOf, progressOf, Left, then, played, playOutcomeOf}
 use Rattle.player.specs.Parts.{isEnded, Call, joined, LastIsLast, fed}
 use Rattle.player.proofs.Kept.{RecordFits, ProgressFits}
 use Rattle.player.proofs.Pieces.{pieces-write-the-recording, pieces-leave-its-state}
 use Rattle.host_player.specs.Playing.{playerIn, statusNumber, PlayCall, callPlayed, playCalled}
-use Rattle.host_player.proofs.Left.{PlayerFits}
-use Rattle.host_player.proofs.NextCall.{call-is, call-leaves-48, call-read, call-written, call-plays-on, next-call-begins, still-fits}
+use Rattle.host_player.proofs.PlayerLeft.{PlayerFits}
+use Rattle.host_player.proofs.NextCall.{call-is, call-leaves-48, call-read, call-written, next-call-begins, still-fits}
 
 -- a call of a list of calls: the piece of the recording that is put behind the bytes not yet read, `last`, and the output that is lent
 pub record PieceCall : Type 0 where
@@ -167,20 +166,21 @@ calls-are-fed storage keys player unread (c ∷ cs) sized fits short rooms =
     (call-then o q m (fed startSettings (q .progress) (drop (q .read) bytes) (callsOf cs)) (isEnded (q .status))
     (one-call storage keys player bytes (c .last) (c .output) sized fits few (rooms .0)) from)
 
+-- a player of 48 zero bytes
+pub zeros-fit : PlayerFits (playerIn (replicate 48 0))
+unfolding little
+zeros-fit = record { each = each; requests = omega arith; records = omega arith }
+  where
+    each : (i : ℕ) → RecordFits (getD (playerIn (replicate 48 0) .processors) i startProcessor)
+    each zero = (omega arith, omega arith)
+    each (suc zero) = (omega arith, omega arith)
+    each (suc (suc i)) = (omega arith, omega arith)
+
 -- The whole recording, from the start: settings 2, 65,536 zero bytes, 32 zero keys, a player of 48 zero bytes.
 module _ (calls : List PieceCall) (l : LastIsLast (callsOf calls)) (short : length (joined (callsOf calls)) < 18446744073709551616)
     (rooms : OutputsFit calls) where
   abbrev pub all : Made
   all = made (replicate 65536 0) (replicate 32 0) (replicate 48 0) [] calls
-
-  zeros-fit : PlayerFits (playerIn (replicate 48 0))
-  unfolding little
-  zeros-fit = record { each = each; requests = omega arith; records = omega arith }
-    where
-      each : (i : ℕ) → RecordFits (getD (playerIn (replicate 48 0) .processors) i startRecord)
-      each zero = (omega arith, omega arith)
-      each (suc zero) = (omega arith, omega arith)
-      each (suc (suc i)) = (omega arith, omega arith)
 
   start : progressOf (playerIn (replicate 48 0)) (replicate 65536 0) (replicate 32 0) ≡ startProgress
   unfolding little startState
@@ -195,9 +195,9 @@ module _ (calls : List PieceCall) (l : LastIsLast (callsOf calls)) (short : leng
     ended : fed startSettings startProgress [] (callsOf calls) .status ≡ Ended
     ended = answers-1 (fed startSettings startProgress [] (callsOf calls) .status) (sym (same .result) ∙ e)
 
-    pub calls-write-the-recording : all .text ≡ textOf (recording (joined (callsOf calls)))
+    pub calls-write-the-recording : all .text ≡ textOf (runOf (joined (callsOf calls)))
     calls-write-the-recording = same .text ∙ pieces-write-the-recording (callsOf calls) l ended
 
-    pub calls-leave-its-state : stateOf (playerIn (all .player) .processors) (all .storage) (all .keys) ≡ recording (joined (callsOf calls)) .state
+    pub calls-leave-its-state : stateOf (playerIn (all .player) .processors) (all .storage) (all .keys) ≡ runOf (joined (callsOf calls)) .state
     calls-leave-its-state =
         ap (λ (p : Progress). p .state) (same .progress) ∙ pieces-leave-its-state (callsOf calls) l ended

@@ -1,9 +1,9 @@
--- Rows: the player at the start, the 48 bytes of a player read and written field by field, and the calls that are refused. All but the last are
--- computed. Assumes nothing.
-use Prim.Native.Nat.{ℕ, _≤_, _<_}
+-- Rows: the player at the start, the 48 bytes of a player read and written field by field, two calls on one recording, and the calls that are
+-- refused. All but the last are computed. Assumes nothing.
+use Prim.Native.Nat.{ℕ, _<_}
 use native.Mathlib.Decide.{decLt}
 use native.Mathlib.Omega.{arith}
-use mathlib.Core.Path.{_≡_, refl, sym}
+use mathlib.Core.Path.{_≡_, refl, sym, ap, subst}
 use mathlib.Core.Bool.{true, false}
 use mathlib.Core.List.{List, [], _∷_}
 use lib.ListN.{length, replicate}
@@ -11,11 +11,15 @@ use Rattle.machine.specs.declared.Processor.{Processor}
 use Rattle.house_record.specs.Little.{little, littleBytes}
 use Rattle.player.specs.declared.Player.{Player}
 use Rattle.player.specs.declared.Played.{Played}
-use Rattle.player.specs.declared.Status.the-variants.{Room}
+use Rattle.player.specs.declared.Status.the-variants.{Ended, Room}
 use Rattle.player.specs.Text.{pasted}
-use Rattle.player.specs.Play.{startPlayer}
+use Rattle.player.specs.Run.{Progress, progress, startSettings}
+use Rattle.player.specs.Play.{startPlayer, stateOf, progressOf, left}
+use Rattle.player.specs.Parts.{joined, fed}
+use Rattle.player.proofs.TwoPieces.{twoPieces, badRecord2, two-pieces}
 use Rattle.host_player.specs.Playing.{playerIn, playerLeft, playCall, playCalled}
 use Rattle.host_player.proofs.Calls.{settings-refused, player-refused}
+use Rattle.host_player.proofs.Recordings.{PieceCall, Made, made, Same, calls-are-fed, zeros-fit}
 
 -- 48 zero bytes are the player at the start of a run
 pub zeros-are-the-start : playerIn (replicate 48 0) ≡ startPlayer
@@ -63,6 +67,25 @@ fields-read = refl
 pub fields-left : playerLeft aPlayed bytesBefore ≡ itsBytes
 unfolding playerLeft pasted littleBytes
 fields-left = refl
+
+-- a recording in two calls, from the start: they end the run, and all they have written is that the second record is bad
+abbrev pub twoCalls : List PieceCall
+twoCalls =
+    record { piece = 2 ∷ 0 ∷ 255 ∷ []; last = 0; output = replicate 64 0 } ∷ record { piece = 0 ∷ 9 ∷ []; last = 1; output = replicate 64 0 } ∷ []
+
+module _ (storage keys : List ℕ) where
+  abbrev pub both : Made
+  both = made storage keys (replicate 48 0) [] twoCalls
+
+  as-pieces : Same both (left badRecord2 (progress (stateOf (startPlayer .processors) storage keys) 0 2) 4 Ended)
+  unfolding joined
+  as-pieces =
+      subst (Same both) (two-pieces storage keys)
+      (subst (λ p. Same both (fed startSettings (progressOf p storage keys) [] twoPieces)) zeros-are-the-start
+      (calls-are-fed storage keys (replicate 48 0) [] twoCalls refl zeros-fit (omega arith) (omega arith, (omega arith, tt))))
+
+  pub two-calls : (both .result ≡ 1) × (both .text ≡ badRecord2) × (playerIn (both .player) .records ≡ 2)
+  two-calls = (as-pieces .result, as-pieces .text, ap (λ (p : Progress). p .records) (as-pieces .progress))
 
 -- the calls that are refused, whatever else they are given: result 4, and all is kept
 module _ (storage keys piece : List ℕ) (last : ℕ) (output : List ℕ) where

@@ -1,8 +1,9 @@
--- What playing keeps. A property of the run so far that a request and any other record keep is kept by a call of `play`, record after record: so
--- of the records of the processors condition code and prefix only change, and numbers that fit their bytes still do. Assumes nothing.
-use Prim.Native.Nat.{ℕ, zero, suc, _+_, _-_, _*_, _^_, _/_, _%_, _≤_, _<_}
+-- What playing keeps, and what it keeps to. A property of the run so far that a request and any other record keep is kept by a call of `play`, record
+-- after record: so of the records of the processors condition code and prefix only change, and numbers that fit their fields still do. A call
+-- reads no more than its bytes and writes no more than its room. Assumes nothing.
+use Prim.Native.Nat.{ℕ, zero, suc, _+_, _-_, _^_, _/_, _%_, _≤_, _<_}
 use native.Mathlib.Omega.{arith}
-use mathlib.Core.Path.{_≡_, refl, sym, ap, _∙_, subst}
+use mathlib.Core.Path.{_≡_, refl, ap, _∙_, subst}
 use mathlib.Core.Bool.{Bool, true, false, cond, not, _||_}
 use mathlib.Core.List.{List, [], _∷_, _++_}
 use mathlib.Core.Option.{some}
@@ -31,13 +32,14 @@ use Rattle.machine.proofs.Pairs.{by-record, has-record}
 use Rattle.trace.specs.declared.Read.{Read}
 use Rattle.trace.specs.declared.Read.the-variants.{Request as ARequest, Remark, Bad, End}
 use Rattle.trace.specs.Trace.{readOf}
-use Rattle.player.specs.declared.Status.the-variants.{Passed, More, Ended, Room, Limit}
-use Rattle.player.specs.Text.{decimalIn, decimalOf, blank, lineEnd, lineText, badText}
-use Rattle.player.specs.Run.{Progress, startRecord, afterRequest, afterOther, turnOf}
+use Rattle.player.specs.declared.Status.the-variants.{More, Ended, Room, Limit}
+use Rattle.player.specs.Text.{decimalIn, decimalOf, lineText, badText}
+use Rattle.player.specs.Run.{Progress, startProcessor, afterRequest, afterOther, turnOf}
 use Rattle.player.specs.Play.{Left, left, requestPlayed, badPlayed, readPlayed, ordinalsUsed, recordPlayed, passes, then, played}
 use Rattle.player.proofs.Records.{ordinals-left}
 use Rattle.player.proofs.Playing.{record-fits}
 
+-- What a request keeps, and any other record, is kept by a call.
 module _ (s : Settings) (P : Progress → Type 0)
     (request : (p : Progress) (t : Turn) → ordinalsUsed p ≡ false → P p → P (afterRequest s p t))
     (other : (p : Progress) → ordinalsUsed p ≡ false → P p → P (afterOther p)) where
@@ -112,13 +114,14 @@ pub playing-keeps-controls : (n : ℕ) (s : Settings) (last : Bool) (room : ℕ)
 playing-keeps-controls n s last room p bytes =
     playing-keeps s (λ q. ControlsKept (q .state .processors) (p .state .processors))
     (λ q t u h.
-    let m = q .state in
-    (pair-length s (m .storage) (m .keys) (m .processors) (t .processorNumber) (t .request) (t .buffer) ∙ h .0,
-    λ i d.
-    same-controls-on _ (getD (m .processors) i d) (getD (p .state .processors) i d)
-    (pair-related SameControls (λ x. refl) s (m .storage) (m .keys) (m .processors) (t .processorNumber) (t .request) (t .buffer)
-    (λ x. controls-stay s (m .storage) (m .keys) x (t .request) (t .buffer)) i d)
-    (h .1 i d)))
+    let m = q .state in (
+      pair-length s (m .storage) (m .keys) (m .processors) (t .processorNumber) (t .request) (t .buffer) ∙ h .0,
+      λ i d.
+          same-controls-on _ (getD (m .processors) i d) (getD (p .state .processors) i d)
+          (pair-related SameControls (λ x. refl) s (m .storage) (m .keys) (m .processors) (t .processorNumber) (t .request) (t .buffer)
+          (λ x. controls-stay s (m .storage) (m .keys) x (t .request) (t .buffer)) i d)
+          (h .1 i d),
+    ))
     (λ q u h. h)
     n last room p bytes (refl, λ i d. refl)
 
@@ -145,7 +148,7 @@ step-fits s storage keys p r buffer h =
 
 -- records, and counts of requests and of records, that fit their fields
 pub record NumbersFit (ps : List Processor) (n m : ℕ) : Type 0 where
-  pub each : (i : ℕ) → RecordFits (getD ps i startRecord)
+  pub each : (i : ℕ) → RecordFits (getD ps i startProcessor)
   pub requests : n < 18446744073709551616
   pub records : m < 18446744073709551616
 
@@ -164,7 +167,7 @@ request-fits s q t u h =
       each = λ i.
           pair-related (λ x y. RecordFits y → RecordFits x) (λ x f. f) s (m .storage) (m .keys) (m .processors) (t .processorNumber) (t .request)
           (t .buffer)
-          (λ x. step-fits s (m .storage) (m .keys) x (t .request) (t .buffer)) i startRecord
+          (λ x. step-fits s (m .storage) (m .keys) x (t .request) (t .buffer)) i startProcessor
           (h .each i);
       requests = counted q u h .0;
       records = counted q u h .1;
@@ -229,10 +232,11 @@ answer-small s m t =
     by-record s (m .storage) (m .keys) (m .processors) (t .processorNumber) (t .request) (t .buffer)
     (λ o. (o .answer .number ≤ 66) × (o .answer .place < 256))
     (λ e. without (lengthsValid s (length (m .storage)) (length (m .keys))))
-    (λ p e.
-    (by-verdict s (m .storage) (m .keys) p (t .request) (t .buffer) (λ o. o .answer .number ≤ 66) (λ reason place f. number-of-reason reason .1)
-    (λ f. omega (arith, completed-number s (m .storage) (m .keys) p (t .request) (t .buffer) (t .request))),
-    place-below-256 s (m .storage) (m .keys) p (t .request) (t .buffer)))
+    (λ p e. (
+      by-verdict s (m .storage) (m .keys) p (t .request) (t .buffer) (λ o. o .answer .number ≤ 66) (λ reason place f. number-of-reason reason .1)
+          (λ f. omega (arith, completed-number s (m .storage) (m .keys) p (t .request) (t .buffer) (t .request))),
+      place-below-256 s (m .storage) (m .keys) p (t .request) (t .buffer),
+    ))
   where
     without : (b : Bool)
         → (values (answerOf (firstOf (line Configuration (not b)) (Stop Record 0)) 0 0) .number ≤ 66)

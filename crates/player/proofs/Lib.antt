@@ -17,9 +17,11 @@ pub mod FiveNumbers
 pub mod Parts
 pub mod Stopping
 pub mod Pieces
--- What playing keeps
+-- What playing keeps, and what it keeps to
 pub mod Kept
 -- The case that 02 gives
 pub mod GivenCase
 -- A run, computed
 pub mod Rows
+-- A case in two pieces
+pub mod TwoPieces

@@ -1,6 +1,6 @@
 -- What a call leaves in the player's bytes is what the next call reads there: each field is read where it was put, and what is put after it lies
 -- elsewhere. Assumes nothing.
-use Prim.Native.Nat.{ℕ, zero, suc, _+_, _^_, _≤_, _<_}
+use Prim.Native.Nat.{ℕ, _+_, _^_, _≤_, _<_}
 use native.Mathlib.Omega.{arith}
 use mathlib.Core.Path.{_≡_, refl, sym, ap, _∙_}
 use mathlib.Core.Logic.{inl, inr}
@@ -9,11 +9,10 @@ use lib.ListN.{length, getD}
 use Rattle.machine.specs.declared.Processor.{Processor}
 use Rattle.machine.specs.Step.{withCode, withPrefix}
 use Rattle.host.specs.Boundary.{recordAt}
-use Rattle.host.proofs.Records.{same-record}
 use Rattle.house_record.specs.Little.{little}
 use Rattle.player.specs.declared.Player.{Player}
 use Rattle.player.specs.declared.Played.{Played}
-use Rattle.player.specs.Run.{startRecord}
+use Rattle.player.specs.Run.{startProcessor}
 use Rattle.player.proofs.Kept.{SameControls, ControlsKept, RecordFits, NumbersFit}
 use Rattle.host_player.specs.Playing.{playerIn, put, putRecord, playerLeft}
 use Rattle.host_player.proofs.Fields.{length-put, put-there, little-else, record-else, length-putRecord, record-put, record-beside}
@@ -139,17 +138,17 @@ PlayerFits p = NumbersFit (p .processors) (p .requests) (p .records)
 -- what is left, where only condition codes and prefixes differ from the player that was read
 module _ (r : Played) (b : List ℕ) (sized : length b ≡ 48) (kept : ControlsKept (r .player .processors) (playerIn b .processors)) where
   abbrev first : Processor
-  first = getD (r .player .processors) 0 startRecord
+  first = getD (r .player .processors) 0 startProcessor
 
   abbrev second : Processor
-  second = getD (r .player .processors) 1 startRecord
+  second = getD (r .player .processors) 1 startProcessor
 
   pair : r .player .processors ≡ first ∷ second ∷ []
-  pair = pair-of (r .player .processors) startRecord (kept .0)
+  pair = pair-of (r .player .processors) startProcessor (kept .0)
 
   pub left-is-read : PlayerFits (r .player) → playerIn (playerLeft r b) ≡ r .player
   left-is-read fits =
-      pair-is-read r b sized first second pair (fits .each 0) (fits .each 1) (kept .1 0 startRecord) (kept .1 1 startRecord) (fits .requests)
+      pair-is-read r b sized first second pair (fits .each 0) (fits .each 1) (kept .1 0 startProcessor) (kept .1 1 startProcessor) (fits .requests)
       (fits .records)
 
   pub left-has-48 : length (playerLeft r b) ≡ 48

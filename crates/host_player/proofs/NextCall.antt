@@ -15,7 +15,8 @@ use Rattle.player.specs.declared.Player.{Player}
 use Rattle.player.specs.declared.Played.{Played}
 use Rattle.player.specs.Run.{startProcessor}
 use Rattle.player.specs.Play.{progressOf, Left, played, playOutcomeOf}
-use Rattle.player.proofs.Kept.{ControlsKept, RecordFits, ProgressFits, playing-keeps-controls, playing-fits, reads-within, writes-within}
+use Rattle.player.proofs.Playing.{play-fits}
+use Rattle.player.proofs.Kept.{ControlsKept, RecordFits, ProgressFits, playing-keeps-controls, playing-fits, writes-within}
 use Rattle.host_player.specs.Playing.{playerIn, playerLeft, PlayCall, answered, callPlayed, playCalled}
 use Rattle.host_player.proofs.PlayerLeft.{PlayerFits, left-is-read, left-has-48, read-is-read, written-is-read}
 
@@ -62,7 +63,7 @@ module _ (settings : ℕ) (storage keys player piece : List ℕ) (last : ℕ) (o
         ∙ read-is-read answer player sized kept
         (omega (
           arith,
-          reads-within (length piece + 1) (settingsOf settings) (not (eqb last 0)) (length output) (progressOf (playerIn player) storage keys) piece,
+          play-fits (length piece + 1) (settingsOf settings) (not (eqb last 0)) (length output) (progressOf (playerIn player) storage keys) piece,
         ))
 
     -- the count of bytes written, and the player

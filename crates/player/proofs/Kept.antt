@@ -1,14 +1,14 @@
 -- What playing keeps, and what it keeps to. A property of the run so far that a request and any other record keep is kept by a call of `play`, record
 -- after record: so of the records of the processors condition code and prefix only change, and numbers that fit their fields still do. A call
--- reads no more than its bytes and writes no more than its room. Assumes nothing.
+-- writes no more than its room. Assumes nothing.
 use Prim.Native.Nat.{ℕ, zero, suc, _+_, _-_, _^_, _/_, _%_, _≤_, _<_}
 use native.Mathlib.Omega.{arith}
 use mathlib.Core.Path.{_≡_, refl, ap, _∙_, subst}
 use mathlib.Core.Bool.{Bool, true, false, cond, not, _||_}
 use mathlib.Core.List.{List, [], _∷_, _++_}
 use mathlib.Core.Option.{some}
-use lib.ListN.{length, getD, set, getElem?, drop, length-set, length-drop, length-append}
-use lib.Dec.{leb, ltb}
+use lib.ListN.{length, getD, set, getElem?, drop, length-set, length-append}
+use lib.Dec.{ltb}
 use borrow.Author.Tests.{lt-ltb, ltb-false}
 use Rattle.machine.specs.declared.Settings.{Settings}
 use Rattle.machine.specs.declared.Processor.{Processor}
@@ -35,9 +35,8 @@ use Rattle.trace.specs.Trace.{readOf}
 use Rattle.player.specs.declared.Status.the-variants.{More, Ended, Room, Limit}
 use Rattle.player.specs.Text.{decimalIn, decimalOf, lineText, badText}
 use Rattle.player.specs.Run.{Progress, startProcessor, afterRequest, afterOther, turnOf}
-use Rattle.player.specs.Play.{Left, left, requestPlayed, badPlayed, readPlayed, ordinalsUsed, recordPlayed, passes, then, played}
+use Rattle.player.specs.Play.{Left, left, requestPlayed, judged, badPlayed, readPlayed, ordinalsUsed, recordPlayed, passes, then, played}
 use Rattle.player.proofs.Records.{ordinals-left}
-use Rattle.player.proofs.Playing.{record-fits}
 
 -- What a request keeps, and any other record, is kept by a call.
 module _ (s : Settings) (P : Progress → Type 0)
@@ -53,7 +52,7 @@ module _ (s : Settings) (P : Progress → Type 0)
   read-keeps last p bytes (ARequest n r size) u h = request p (turnOf n r bytes size) u h
   read-keeps last p bytes (Remark size) u h = other p u h
   read-keeps last p bytes Bad u h =
-      picked (last || leb 514 (length bytes)) (left (badText (p .records + 1)) (afterOther p) 0 Ended) (left [] p 0 More) (other p u h) h
+      picked (last || judged bytes) (left (badText (p .records + 1)) (afterOther p) 0 Ended) (left [] p 0 More) (other p u h) h
   read-keeps last p bytes End u h = h
 
   tested-keeps : (last : Bool) (p : Progress) (bytes : List ℕ) (full used : Bool) → ordinalsUsed p ≡ used → P p
@@ -184,22 +183,6 @@ pub playing-fits : (n : ℕ) (s : Settings) (last : Bool) (room : ℕ) (p : Prog
     → ProgressFits (played n s last room p bytes .progress)
 playing-fits n s last room p bytes fits = playing-keeps s ProgressFits (request-fits s) other-fits n last room p bytes fits
 
--- what a call reads lies within the bytes
-chosen-within : (o next : Left) (bytes : List ℕ) (b : Bool) → o .read ≤ length bytes → next .read ≤ length (drop (o .read) bytes)
-    → cond b (then o next) o .read ≤ length bytes
-chosen-within o next bytes true h k = omega (arith, h, k, length-drop (o .read) bytes)
-chosen-within o next bytes false h k = h
-
-pub reads-within : (n : ℕ) (s : Settings) (last : Bool) (room : ℕ) (p : Progress) (bytes : List ℕ) → played n s last room p bytes .read ≤ length bytes
-unfolding played
-reads-within zero s last room p bytes = omega arith
-reads-within (suc n) s last room p bytes =
-    let o : Left = recordPlayed s last room p bytes in
-    let left-over : ℕ = room - length (o .text) in
-    let rest : List ℕ = drop (o .read) bytes in
-    chosen-within o (played n s last left-over (o .progress) rest) bytes (passes (o .status)) (record-fits s last room p bytes)
-    (reads-within n s last left-over (o .progress) rest)
-
 -- A line has less than 64 bytes, and so a call keeps to its room. A number below a power of ten has at most so many digits.
 digit-more : (j n : ℕ) (xs : List ℕ) (b : Bool) → length xs ≤ j → length (cond b ((48 + n) ∷ []) (xs ++ ((48 + n % 10) ∷ []))) ≤ suc j
 digit-more j n xs true h = omega arith
@@ -251,7 +234,7 @@ read-short s last p bytes (ARequest n r size) u h =
     let a = answer-small s (p .state) (turnOf n r bytes size) in
     line-short (p .requests + 1) _ _ (counted p u h .0) (a .0) (a .1)
 read-short s last p bytes (Remark size) u h = omega arith
-read-short s last p bytes Bad u h = go (last || leb 514 (length bytes))
+read-short s last p bytes Bad u h = go (last || judged bytes)
   where
     go : (b : Bool) → length (cond b (left (badText (p .records + 1)) (afterOther p) 0 Ended) (left [] p 0 More) .text) ≤ 64
     go true = bad-short (p .records + 1) (counted p u h .1)

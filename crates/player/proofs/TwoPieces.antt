@@ -10,7 +10,7 @@ use Rattle.trace.specs.Trace.{remarkIn, kindRead, recordRead, readOf}
 use Rattle.player.specs.declared.Status.the-variants.{Ended}
 use Rattle.player.specs.Text.{decimalIn, badText}
 use Rattle.player.specs.Run.{progress, startSettings}
-use Rattle.player.specs.Play.{left, startPlayer, progressOf, stateOf, badPlayed, readPlayed, recordPlayed, played}
+use Rattle.player.specs.Play.{left, startPlayer, progressOf, stateOf, judged, badPlayed, readPlayed, recordPlayed, played}
 use Rattle.player.specs.Parts.{Call, fed}
 
 abbrev pub twoPieces : List Call
@@ -23,5 +23,5 @@ badRecord2 = 98 ∷ 97 ∷ 100 ∷ 32 ∷ 114 ∷ 101 ∷ 99 ∷ 111 ∷ 114 ∷
 
 pub two-pieces : (storage keys : List ℕ) → fed startSettings (progressOf startPlayer storage keys) [] twoPieces
     ≡ left badRecord2 (progress (stateOf (startPlayer .processors) storage keys) 0 2) 4 Ended
-unfolding little found remarkIn kindRead recordRead readOf decimalIn badText badPlayed readPlayed recordPlayed played fed
+unfolding little found remarkIn kindRead recordRead readOf decimalIn badText judged badPlayed readPlayed recordPlayed played fed
 two-pieces storage keys = refl

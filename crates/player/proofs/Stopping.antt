@@ -1,10 +1,11 @@
 -- Why `play` stops: by what the record in front of the unread bytes is, and because a record that passes has at least one byte. Assumes nothing.
 use Prim.Native.Nat.{ℕ, zero, suc, _+_, _-_, _<_}
 use native.Mathlib.Omega.{arith}
-use mathlib.Core.Path.{_≡_, refl, ap, subst}
+use mathlib.Core.Path.{_≡_, refl, sym, ap, subst}
 use mathlib.Core.Bool.{Bool, true, false, cond, _||_}
 use mathlib.Core.List.{List, [], _++_}
 use lib.ListN.{length, drop, length-drop, length-append}
+use lib.Seq.{drop-drop}
 use lib.Dec.{ltb}
 use borrow.Author.Tests.{ltb-true}
 use Rattle.machine.specs.declared.Settings.{Settings}
@@ -20,7 +21,7 @@ use Rattle.player.specs.Run.{Progress, afterOther}
 use Rattle.player.specs.Play.{Left, left, requestPlayed, judged, badPlayed, readPlayed, ordinalsUsed, recordPlayed, passes, then, played}
 use Rattle.player.specs.Parts.{Stopped, WhyStopped}
 use Rattle.player.proofs.Records.{neither}
-use Rattle.player.proofs.Judged.{unjudged-short}
+use Rattle.player.proofs.Judged.{no-length}
 use Rattle.player.proofs.Playing.{record-fits}
 
 -- the end is read of no bytes only
@@ -39,10 +40,10 @@ end-is-nothing bytes =
 -- a record that passes has at least one byte
 abbrev Stops : Left → (last : Bool) (bytes : List ℕ) (room : ℕ) → Status → Type 0
 Stops o last bytes room Passed = 0 < o .read
-Stops o last bytes room More = Stopped More last (length bytes - o .read) (room - length (o .text)) (o .progress)
+Stops o last bytes room More = Stopped More last (drop (o .read) bytes) (room - length (o .text)) (o .progress)
 Stops o last bytes room Ended = Unit {0}
-Stops o last bytes room Room = Stopped Room last (length bytes - o .read) (room - length (o .text)) (o .progress)
-Stops o last bytes room Limit = Stopped Limit last (length bytes - o .read) (room - length (o .text)) (o .progress)
+Stops o last bytes room Room = Stopped Room last (drop (o .read) bytes) (room - length (o .text)) (o .progress)
+Stops o last bytes room Limit = Stopped Limit last (drop (o .read) bytes) (room - length (o .text)) (o .progress)
 
 module _ (s : Settings) (last : Bool) (room : ℕ) (p : Progress) (bytes : List ℕ) where
   abbrev Why : Left → Type 0
@@ -53,11 +54,11 @@ module _ (s : Settings) (last : Bool) (room : ℕ) (p : Progress) (bytes : List 
   bad-why true e = tt
   bad-why false e =
       let (l, k) = neither last (judged bytes) e in
-      (l, omega (arith, unjudged-short bytes k))
+      (l, k)
 
   end-why : readOf bytes ≡ End → (b : Bool) → last ≡ b → Why (left [] p 0 (cond b Ended More))
   end-why e true l = tt
-  end-why e false l = (l, omega (arith, end-is-nothing bytes (ap (λ (x : Read). isEnd x) e)))
+  end-why e false l = (l, sym (no-length bytes (omega (arith, end-is-nothing bytes (ap (λ (x : Read). isEnd x) e)))))
 
   read-why : (found : Read) → readOf bytes ≡ found → Why (readPlayed found s last p bytes)
   unfolding readPlayed requestPlayed badPlayed
@@ -78,7 +79,7 @@ module _ (s : Settings) (last : Bool) (room : ℕ) (p : Progress) (bytes : List 
 
 -- a record that does not pass stops the call
 stays : (o : Left) (last : Bool) (bytes : List ℕ) (room : ℕ) (x : Status) → passes x ≡ false → Stops o last bytes room x
-    → Stopped x last (length bytes - o .read) (room - length (o .text)) (o .progress)
+    → Stopped x last (drop (o .read) bytes) (room - length (o .text)) (o .progress)
 stays o last bytes room Passed e h = absurd (not-both refl e)
 stays o last bytes room More e h = h
 stays o last bytes room Ended e h = h
@@ -94,25 +95,25 @@ moves o last bytes room Limit e h = absurd (not-both e refl)
 
 -- what is left after two calls is what is left after the second of what the first left
 left-after : (o next : Left) (last : Bool) (bytes : List ℕ) (room : ℕ)
-    → Stopped (next .status) last (length (drop (o .read) bytes) - next .read) (room - length (o .text) - length (next .text)) (next .progress)
-    → Stopped (next .status) last (length bytes - (o .read + next .read)) (room - length (o .text ++ next .text)) (next .progress)
+    → Stopped (next .status) last (drop (next .read) (drop (o .read) bytes)) (room - length (o .text) - length (next .text)) (next .progress)
+    → Stopped (next .status) last (drop (o .read + next .read) bytes) (room - length (o .text ++ next .text)) (next .progress)
 left-after o next last bytes room h =
-    let a : length (drop (o .read) bytes) - next .read ≡ length bytes - (o .read + next .read) = rw (length-drop (o .read) bytes) (omega arith) in
+    let a : drop (next .read) (drop (o .read) bytes) ≡ drop (o .read + next .read) bytes = drop-drop (next .read) (o .read) bytes in
     let b : room - length (o .text) - length (next .text) ≡ room - length (o .text ++ next .text) = rw (length-append (o .text) (next .text)) (omega arith) in
-    subst (λ n. Stopped (next .status) last n (room - length (o .text ++ next .text)) (next .progress)) a
-    (subst (λ n. Stopped (next .status) last (length (drop (o .read) bytes) - next .read) n (next .progress)) b h)
+    subst (λ u. Stopped (next .status) last u (room - length (o .text ++ next .text)) (next .progress)) a
+    (subst (λ n. Stopped (next .status) last (drop (next .read) (drop (o .read) bytes)) n (next .progress)) b h)
 
 chosen : (o next : Left) (last : Bool) (bytes : List ℕ) (room : ℕ) (b : Bool) → passes (o .status) ≡ b → Stops o last bytes room (o .status)
     → (0 < o .read
-    → Stopped (next .status) last (length (drop (o .read) bytes) - next .read) (room - length (o .text) - length (next .text)) (next .progress))
-    → Stopped (cond b (then o next) o .status) last (length bytes - cond b (then o next) o .read) (room - length (cond b (then o next) o .text))
+    → Stopped (next .status) last (drop (next .read) (drop (o .read) bytes)) (room - length (o .text) - length (next .text)) (next .progress))
+    → Stopped (cond b (then o next) o .status) last (drop (cond b (then o next) o .read) bytes) (room - length (cond b (then o next) o .text))
     (cond b (then o next) o .progress)
 chosen o next last bytes room true e h k = left-after o next last bytes room (k (moves o last bytes room (o .status) e h))
 chosen o next last bytes room false e h k = stays o last bytes room (o .status) e h
 
 stops-within : (n : ℕ) (s : Settings) (last : Bool) (room : ℕ) (p : Progress) (bytes : List ℕ) → length bytes < n
     → let o = played n s last room p bytes in
-    Stopped (o .status) last (length bytes - o .read) (room - length (o .text)) (o .progress)
+    Stopped (o .status) last (drop (o .read) bytes) (room - length (o .text)) (o .progress)
 unfolding played
 stops-within zero s last room p bytes h = absurd (omega arith)
 stops-within (suc n) s last room p bytes h =

@@ -9,7 +9,7 @@ use Rattle.machine.specs.Turns.{State}
 use Rattle.player.specs.declared.Status.{Status}
 use Rattle.player.specs.declared.Status.the-variants.{Passed, More, Ended, Room, Limit}
 use Rattle.player.specs.Run.{Progress, runFrom, textOf}
-use Rattle.player.specs.Play.{Left, left, ordinalsUsed, then, played}
+use Rattle.player.specs.Play.{Left, left, judged, ordinalsUsed, then, played}
 
 -- what the run writes that goes on from p with these bytes, and the state that it leaves
 abbrev pub textFrom : Settings → Progress → List ℕ → List ℕ
@@ -43,11 +43,11 @@ PlayIsRun =
     (n : ℕ) (s : Settings) (last : Bool) (room : ℕ) (p : Progress) (bytes t : List ℕ) → (last ≡ true → t ≡ [])
     → FrontOfRun s p bytes t (played n s last room p bytes)
 
--- why `play` stops. It never answers that another record may follow. It asks for more bytes only where fewer than 514 are not read, and not
--- where nothing comes behind them; for room only where less than 64 bytes are left
-abbrev pub Stopped : Status → (last : Bool) (unread room : ℕ) → Progress → Type 0
+-- why `play` stops. It never answers that another record may follow. It asks for more bytes only where the record in front of those that are not
+-- read cannot be judged, and something may come behind them; for room only where less than 64 bytes are left
+abbrev pub Stopped : Status → (last : Bool) (unread : List ℕ) (room : ℕ) → Progress → Type 0
 Stopped Passed last unread room p = ⊥
-Stopped More last unread room p = (last ≡ false) × (unread < 514)
+Stopped More last unread room p = (last ≡ false) × (judged unread ≡ false)
 Stopped Ended last unread room p = Unit {0}
 Stopped Room last unread room p = room < 64
 Stopped Limit last unread room p = ordinalsUsed p ≡ true
@@ -56,7 +56,7 @@ abbrev pub WhyStopped : Type 0
 WhyStopped =
     (s : Settings) (last : Bool) (room : ℕ) (p : Progress) (bytes : List ℕ)
     → let o = played (length bytes + 1) s last room p bytes in
-    Stopped (o .status) last (length bytes - o .read) (room - length (o .text)) (o .progress)
+    Stopped (o .status) last (drop (o .read) bytes) (room - length (o .text)) (o .progress)
 
 -- a call of a list of calls: the piece of the recording that is put behind the bytes not yet read, `last`, and the room
 pub record Call : Type 0 where

@@ -8,6 +8,7 @@ use crate::text::put_bad;
 use house_record::fields::halfword;
 use machine::Processor;
 use machine::Settings;
+use trace::LENGTH_MAXIMUM;
 use trace::Read;
 use trace::read_record;
 ghost use Prim.Native.Nat.{ℕ, _+_, _≤_, _<_};
@@ -50,9 +51,6 @@ pub struct Played {
 
 // Every line has room in so many bytes.
 const LINE_ROOM: usize = 64;
-
-// The greatest length that is not bad.
-const LENGTH_MAXIMUM: usize = 512;
 
 // The greatest ordinal.
 const ORDINAL_MAXIMUM: u64 = 18446744073709551615;

@@ -31,7 +31,7 @@ pub enum Read {
 }
 
 // The greatest length that is not bad. With it a record has 514 bytes.
-const LENGTH_MAXIMUM: usize = 512;
+pub const LENGTH_MAXIMUM: usize = 512;
 
 // The most bytes of a remark.
 const REMARK_MAXIMUM: usize = 256;

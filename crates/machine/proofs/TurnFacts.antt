@@ -27,7 +27,8 @@ use Rattle.machine.specs.KeyInstructions.{wordGiven, keysLeft, codeLeft}
 use Rattle.machine.specs.Table.{addressing, protection, beforeProtection, verdict}
 use Rattle.machine.specs.Step.{storageLeft, bufferLeft, keysRecorded, completed, performed, step}
 use Rattle.machine.specs.Pair.{served, pairStep}
-use Rattle.machine.specs.Units.{anyBelow, names}
+use Rattle.machine.specs.Lists.{anyBelow}
+use Rattle.machine.specs.Units.{names}
 use Rattle.machine.specs.Turns.{Order, done, first, second, End, run, State, Turn, Given, next, given, Every, Unnamed, Apart}
 use Rattle.machine.proofs.Turns.{any-order}
 

@@ -17,6 +17,8 @@ pub mod KeyInstructions
 pub mod Table
 pub mod Step
 pub mod Pair
+-- The channel (02, W4)
+pub mod Channel
 -- Lists and units named, for the third condition
 pub mod Units
 pub mod Turns

@@ -29,6 +29,8 @@ pub mod Rows
 -- A request over the pair of records
 pub mod Pairs
 pub mod Order
+-- The channel
+pub mod ChannelRows
 -- Condition 3: the law about lists of actions, and that the step obeys it
 pub mod Actions
 pub mod Fetches

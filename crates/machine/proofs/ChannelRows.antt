@@ -1,0 +1,230 @@
+-- Rows of channel requests, computed: what each finds, and everything that it gives and leaves. They show each line of a request and of a CCW on
+-- both sides of its bounds, the order of the lines, chains, transfers in channel, data over several units, and a program that is overwritten by
+-- what it reads. Beside them the 256 commands, all at once. Assumes nothing.
+use Prim.Native.Nat.{ℕ, zero, suc, _+_, _-_}
+use mathlib.Core.Path.{_≡_, refl}
+use mathlib.Core.Bool.{Bool, true, false}
+use mathlib.Core.List.{List, [], _∷_, _++_, map}
+use mathlib.Core.Option.{Option, none, some}
+use lib.ListN.{length, replicate, take, drop}
+use Rattle.machine.specs.declared.Settings.{Settings}
+use Rattle.machine.specs.declared.AccessKind.{AccessKind}
+use Rattle.machine.specs.declared.AccessKind.the-variants.{Fetch, Store}
+use Rattle.machine.specs.declared.channel.ChannelRequest.{ChannelRequest}
+use Rattle.machine.specs.declared.channel.Ccw.{Ccw}
+use Rattle.machine.specs.declared.channel.ChannelOperation.{ChannelOperation}
+use Rattle.machine.specs.declared.channel.ChannelOperation.the-variants.{TransferInChannel, Data, Invalid}
+use Rattle.machine.specs.declared.channel.Chaining.{Chaining}
+use Rattle.machine.specs.declared.channel.Chaining.the-variants.{First, Command, Transfer, Ended}
+use Rattle.machine.specs.declared.channel.ChannelRecord.{ChannelRecord}
+use Rattle.machine.specs.Lists.{written, anyBelow}
+use Rattle.machine.specs.Key.{afterFetch, afterStore}
+use Rattle.machine.specs.Answers.{Values}
+use Rattle.machine.specs.Protection.{permitted}
+use Rattle.machine.specs.Channel.{bigEndian, ccwAt, operationOf, rangeForbidden, rangeRecorded, bytesMoved, firstRefusal, beforeFetching}
+use Rattle.machine.specs.Channel.{beforeTransfer, withCcwFetched, carriedOut, obeyed, nextCcw, channelStep, steps, channelRun}
+
+-- 8,192 bytes of storage: these first bytes, and zeros; key array, channel key, first CCW, grant; bytes from the device, room of so many sevens
+record Case : Type 0 where
+  settings : Settings
+  bytes : List ℕ
+  keys : List ℕ
+  key : ℕ
+  first : ℕ
+  grant : ℕ
+  fromDevice : List ℕ
+  roomLength : ℕ
+
+-- number and count; address of the CCW to come, chaining, bytes taken and given; the keys, the room, and four bytes of storage at hex 7FE
+record Seen : Type 0 where
+  number : Option ℕ
+  count : ℕ
+  state : ChannelRecord
+  keys : List ℕ
+  room : List ℕ
+  bytes : List ℕ
+
+abbrev storageOf : List ℕ → List ℕ
+storageOf bytes = bytes ++ replicate (8192 - length bytes) 0
+
+abbrev numberIn : Option Values → Option ℕ
+numberIn none = none
+numberIn (some v) = some (v .number)
+
+abbrev run : Case → Seen
+run c =
+    let q : ChannelRequest = record { key = c .key; first = c .first; grant = c .grant } in
+    let o = channelRun (c .settings) (storageOf (c .bytes)) (c .keys) q (c .fromDevice) (replicate (c .roomLength) 7) in
+    record {
+      number = numberIn (o .answer);
+      count = o .count;
+      state = o .state;
+      keys = o .keys;
+      room = o .room;
+      bytes = take 4 (drop 2046 (o .storage));
+    }
+
+-- a CCW, with something in the byte that is ignored
+abbrev ccw : (command : ℕ) → (a b c : ℕ) → (flags : ℕ) → (high low : ℕ) → List ℕ
+ccw command a b c flags high low = command ∷ a ∷ b ∷ c ∷ flags ∷ 0xAA ∷ high ∷ low ∷ []
+
+abbrev in2K : (bytes keys : List ℕ) → (key first grant : ℕ) → (fromDevice : List ℕ) → (roomLength : ℕ) → Case
+in2K bytes keys key first grant fromDevice roomLength =
+    record {
+      settings = record { «four_k» = false; extensions = false };
+      bytes = bytes;
+      keys = keys;
+      key = key;
+      first = first;
+      grant = grant;
+      fromDevice = fromDevice;
+      roomLength = roomLength;
+    }
+
+abbrev in4K : (bytes keys : List ℕ) → (key first grant : ℕ) → (fromDevice : List ℕ) → (roomLength : ℕ) → Case
+in4K bytes keys key first grant fromDevice roomLength =
+    record {
+      settings = record { «four_k» = true; extensions = false };
+      bytes = bytes;
+      keys = keys;
+      key = key;
+      first = first;
+      grant = grant;
+      fromDevice = fromDevice;
+      roomLength = roomLength;
+    }
+
+abbrev seen : (number count address : ℕ) → Chaining → (taken given : ℕ) → (keys room bytes : List ℕ) → Seen
+seen number count address chaining taken given keys room bytes =
+    record {
+      number = some number;
+      count = count;
+      state = record { ccw = address; chaining = chaining; taken = taken; given = given };
+      keys = keys;
+      room = room;
+      bytes = bytes;
+    }
+
+-- four keys of zeros; no bytes from the device, and no room; four zeros
+abbrev K : List ℕ
+K = 0 ∷ 0 ∷ 0 ∷ 0 ∷ []
+
+abbrev Z : List ℕ
+Z = 0 ∷ 0 ∷ 0 ∷ 0 ∷ []
+
+-- what the keys hold after the fetch of a CCW in unit 0
+abbrev F : List ℕ
+F = 4 ∷ 0 ∷ 0 ∷ 0 ∷ []
+
+abbrev device : List ℕ
+device = 1 ∷ 2 ∷ 3 ∷ 4 ∷ []
+
+-- read four bytes to hex 7FE, over the end of unit 0, and then write three from hex 7FF
+abbrev readWrite : List ℕ
+readWrite = ccw 2 0 7 0xFE 0x40 0 4 ++ ccw 1 0 7 0xFF 0 0 3
+
+-- the same, by a transfer in channel from hex 8 to hex 20; and one to another transfer
+abbrev byTransfer : List ℕ
+byTransfer = ccw 2 0 7 0xFE 0x40 0 4 ++ ccw 0xF8 0 0 0x20 0xFF 0 0 ++ ccw 3 0 0 0 0 0 0 ++ ccw 3 0 0 0 0 0 0 ++ ccw 1 0 7 0xFF 0 0 3
+
+abbrev twoTransfers : List ℕ
+twoTransfers = ccw 1 0 8 0 0x40 0 1 ++ ccw 8 0 0 0x10 0 0 0 ++ ccw 8 0 0 0 0 0 0
+
+-- write a byte, and again
+abbrev loop : List ℕ
+loop = ccw 1 0 8 0 0x40 0 1 ++ ccw 8 0 0 0 0 0 0
+
+-- read the next CCW from the device
+abbrev reads : List ℕ
+reads = ccw 2 0 0 8 0x40 0 8
+
+-- a CCW alone, under a key, with a grant of two
+abbrev single : List ℕ → List ℕ → ℕ → List ℕ → ℕ → Case
+single bytes keys key fromDevice roomLength = in2K bytes keys key 0 2 fromDevice roomLength
+
+abbrev rows : List (Case × Seen)
+rows =
+    -- a program that ends; the grant is used up; the key of the unit keeps access control, and bit 7 is zero where a key is written
+    (in2K readWrite K 0 0 2 device 4, seen 0 2 16 Ended 4 3 (6 ∷ 6 ∷ 0 ∷ 0 ∷ []) (2 ∷ 3 ∷ 4 ∷ 7 ∷ []) device)
+    ∷ (in2K readWrite K 0 0 256 device 3, seen 0 2 16 Ended 4 3 (6 ∷ 6 ∷ 0 ∷ 0 ∷ []) (2 ∷ 3 ∷ 4 ∷ []) device)
+    ∷ (in2K readWrite K 0 0 1 device 4, seen 74 1 8 Command 4 0 (6 ∷ 6 ∷ 0 ∷ 0 ∷ []) (7 ∷ 7 ∷ 7 ∷ 7 ∷ []) device)
+    ∷ (in2K readWrite (0x31 ∷ 0x39 ∷ 0xF1 ∷ 0x3F ∷ []) 3 0 2 device 4
+    , seen 0 2 16 Ended 4 3 (0x36 ∷ 0x3E ∷ 0xF1 ∷ 0x3F ∷ []) (2 ∷ 3 ∷ 4 ∷ 7 ∷ []) device)
+    ∷ (in4K readWrite (0 ∷ 0 ∷ []) 0 0 2 device 4, seen 0 2 16 Ended 4 3 (6 ∷ 0 ∷ []) (2 ∷ 3 ∷ 4 ∷ 7 ∷ []) device)
+    -- transfers in channel: carried out, first, and straight after another; a loop that the grant ends
+    ∷ (in2K byTransfer K 0 0 3 device 4, seen 0 3 0x28 Ended 4 3 (6 ∷ 6 ∷ 0 ∷ 0 ∷ []) (2 ∷ 3 ∷ 4 ∷ 7 ∷ []) device)
+    ∷ (in2K byTransfer K 0 0 2 device 4, seen 74 2 0x20 Transfer 4 0 (6 ∷ 6 ∷ 0 ∷ 0 ∷ []) (7 ∷ 7 ∷ 7 ∷ 7 ∷ []) device)
+    ∷ (in2K byTransfer K 0 8 2 device 4, seen 71 1 8 First 0 0 F (7 ∷ 7 ∷ 7 ∷ 7 ∷ []) Z)
+    ∷ (in2K twoTransfers K 0 0 4 [] 1, seen 71 3 0x10 Transfer 0 1 (4 ∷ 4 ∷ 0 ∷ 0 ∷ []) (0 ∷ []) Z)
+    ∷ (in2K loop K 0 0 5 [] 4, seen 74 5 8 Command 0 3 (4 ∷ 4 ∷ 0 ∷ 0 ∷ []) (0 ∷ 0 ∷ 0 ∷ 7 ∷ []) Z)
+    -- a CCW is fetched when its turn comes: the one that was read is obeyed
+    ∷ (in2K reads K 0 0 3 (ccw 1 0 0 8 0 0 2) 2, seen 0 2 16 Ended 8 2 (6 ∷ 0 ∷ 0 ∷ 0 ∷ []) (1 ∷ 0 ∷ []) Z)
+    -- 64, 65, 66 and their order
+    ∷ (in2K readWrite (0 ∷ 0 ∷ 0 ∷ []) 16 0 0 device 0, seen 64 0 0 First 0 0 (0 ∷ 0 ∷ 0 ∷ []) [] Z)
+    ∷ (in2K readWrite K 16 0 0 device 0, seen 65 0 0 First 0 0 K [] Z)
+    ∷ (in2K readWrite K 15 4 0 device 0, seen 66 0 4 First 0 0 K [] Z)
+    ∷ (in2K readWrite K 15 4 257 device 0, seen 66 0 4 First 0 0 K [] Z)
+    -- 71 for the address: no multiple of 8, outside, and the last CCW of storage; 74 comes before it
+    ∷ (in2K readWrite K 15 4 256 device 0, seen 71 0 4 First 0 0 K [] Z)
+    ∷ (in2K readWrite K 15 8192 1 device 0, seen 71 0 8192 First 0 0 K [] Z)
+    ∷ (in2K readWrite K 15 0xFFFFFFF8 1 device 0, seen 71 0 0xFFFFFFF8 First 0 0 K [] Z)
+    ∷ (in2K [] K 0 8184 1 [] 0, seen 71 1 8184 First 0 0 (0 ∷ 0 ∷ 0 ∷ 4 ∷ []) [] Z)
+    -- 72 for the reading: the CCW's unit is fetch-protected under another key; without fetch protection it is read
+    ∷ (single readWrite (0x39 ∷ 0 ∷ 0 ∷ 0 ∷ []) 5 device 4, seen 72 0 0 First 0 0 (0x39 ∷ 0 ∷ 0 ∷ 0 ∷ []) (7 ∷ 7 ∷ 7 ∷ 7 ∷ []) Z)
+    ∷ (single readWrite (0x31 ∷ 0 ∷ 0 ∷ 0 ∷ []) 5 device 4, seen 72 1 0 First 0 0 (0x34 ∷ 0 ∷ 0 ∷ 0 ∷ []) (7 ∷ 7 ∷ 7 ∷ 7 ∷ []) Z)
+    -- 72 for the transfer: the second unit alone forbids; a write is a fetch
+    ∷ (single readWrite (0x51 ∷ 0x31 ∷ 0 ∷ 0 ∷ []) 5 device 4, seen 72 1 0 First 0 0 (0x54 ∷ 0x31 ∷ 0 ∷ 0 ∷ []) (7 ∷ 7 ∷ 7 ∷ 7 ∷ []) Z)
+    ∷ (single (ccw 5 0 7 0xFE 0 0 4) (0x51 ∷ 0x31 ∷ 0 ∷ 0 ∷ []) 5 [] 4, seen 0 1 8 Ended 0 4 (0x54 ∷ 0x34 ∷ 0 ∷ 0 ∷ []) Z Z)
+    ∷ (single (ccw 5 0 7 0xFE 0 0 4) (0x51 ∷ 0x3B ∷ 0 ∷ 0 ∷ []) 5 [] 4, seen 72 1 0 First 0 0 (0x54 ∷ 0x3B ∷ 0 ∷ 0 ∷ []) (7 ∷ 7 ∷ 7 ∷ 7 ∷ []) Z)
+    -- 71: a bad command, bad flags, a zero count; each comes before what the data would be refused for
+    ∷ (single (ccw 3 0 7 0xFE 0 0 4) K 0 device 4, seen 71 1 0 First 0 0 F (7 ∷ 7 ∷ 7 ∷ 7 ∷ []) Z)
+    ∷ (single (ccw 2 0 7 0xFE 0x80 0 9) K 0 device 4, seen 71 1 0 First 0 0 F (7 ∷ 7 ∷ 7 ∷ 7 ∷ []) Z)
+    ∷ (single (ccw 2 0 7 0xFE 0xC0 0 4) K 0 device 4, seen 71 1 0 First 0 0 F (7 ∷ 7 ∷ 7 ∷ 7 ∷ []) Z)
+    ∷ (single (ccw 2 0 7 0xFE 0x40 0 0) K 0 device 4, seen 71 1 0 First 0 0 F (7 ∷ 7 ∷ 7 ∷ 7 ∷ []) Z)
+    -- 71: the data range; it may end with storage, and does not wrap; it comes before 73
+    ∷ (single (ccw 6 0 0x1F 0xFC 0 0 4) K 0 device 0, seen 0 1 8 Ended 4 0 (4 ∷ 0 ∷ 0 ∷ 6 ∷ []) [] Z)
+    ∷ (single (ccw 6 0 0x1F 0xFC 0 0 5) K 0 device 0, seen 71 1 0 First 0 0 F [] Z)
+    ∷ (single (ccw 1 0xFF 0xFF 0xFF 0 0 2) K 0 [] 2, seen 71 1 0 First 0 0 F (7 ∷ 7 ∷ []) Z)
+    -- 73: bytes or room short; it comes before 72
+    ∷ (single (ccw 2 0 8 0 0 0 5) (0 ∷ 0x30 ∷ 0 ∷ 0 ∷ []) 5 device 0, seen 73 1 0 First 0 0 (4 ∷ 0x30 ∷ 0 ∷ 0 ∷ []) [] Z)
+    ∷ (single (ccw 2 0 8 0 0 0 4) (0 ∷ 0x30 ∷ 0 ∷ 0 ∷ []) 5 device 0, seen 72 1 0 First 0 0 (4 ∷ 0x30 ∷ 0 ∷ 0 ∷ []) [] Z)
+    ∷ (single (ccw 1 0 8 0 0 1 0) (0 ∷ 0x38 ∷ 0 ∷ 0 ∷ []) 5 device 255, seen 73 1 0 First 0 0 (4 ∷ 0x38 ∷ 0 ∷ 0 ∷ []) (replicate 255 7) Z)
+    ∷ []
+
+abbrev Met : List (Case × Seen) → Type 0
+Met [] = Unit {0}
+Met (r ∷ rs) = (run (r .0) ≡ r .1) × Met rs
+
+pub rows-met : Met rows
+unfolding written anyBelow afterFetch afterStore permitted bigEndian ccwAt operationOf rangeForbidden rangeRecorded bytesMoved firstRefusal
+    beforeFetching beforeTransfer withCcwFetched carriedOut obeyed nextCcw channelStep steps channelRun
+rows-met = (refl, (refl, (refl, (refl, (refl, (refl, (refl, (refl, (refl, (refl, (refl, (refl, (refl, (refl, (refl, (refl, (refl, (refl, (refl, (refl, (refl, (refl, (refl, (refl, (refl, (refl, (refl, (refl, (refl, (refl, (refl, (refl, (refl, (refl, tt))))))))))))))))))))))))))))))))))
+
+-- what a CCW with each command asks for, its flags and count being good: of 16 commands in a row low bits 01 write, 10 read, and 1000 transfers
+pub data Asked : Type 0 where
+  write : Asked
+  read : Asked
+  transfer : Asked
+  bad : Asked
+
+abbrev asked : ChannelOperation → Asked
+asked (TransferInChannel address) = transfer
+asked (Data Fetch address count chains) = write
+asked (Data Store address count chains) = read
+asked Invalid = bad
+
+abbrev sixteen : List Asked
+sixteen =
+    bad ∷ write ∷ read ∷ bad ∷ bad ∷ write ∷ read ∷ bad ∷ transfer ∷ write ∷ read ∷ bad ∷ bad ∷ write ∷ read ∷ bad ∷ []
+
+abbrev repeated : ℕ → List Asked
+repeated zero = []
+repeated (suc n) = sixteen ++ repeated n
+
+abbrev from : ℕ → ℕ → List ℕ
+from zero a = []
+from (suc n) a = a ∷ from n (a + 1)
+
+pub commands : map (λ c. asked (operationOf (record { command = c; address = 0; flags = 0; count = 1 }))) (from 256 0) ≡ repeated 16
+unfolding operationOf
+commands = refl

@@ -30,6 +30,7 @@ pub mod Rows
 pub mod Pairs
 pub mod Order
 -- The channel
+pub mod ChannelSteps
 pub mod ChannelRows
 -- Condition 3: the law about lists of actions, and that the step obeys it
 pub mod Actions

@@ -88,6 +88,10 @@ bytesMoved target i source j count = written target (λ k. i + k) (λ k. getD so
 
 -- Answers.
 
+-- the reasons, in the order in which the lines first have them
+abbrev pub channelReasons : List ChannelReason
+channelReasons = Configuration ∷ ChannelKey ∷ Grant ∷ GrantUsed ∷ Program ∷ Protection ∷ Device ∷ []
+
 abbrev pub channelNumber : ChannelReason → ℕ
 channelNumber Configuration = 64
 channelNumber ChannelKey = 65

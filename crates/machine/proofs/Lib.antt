@@ -15,7 +15,6 @@ pub mod OwnRecord
 pub mod AnswerPlace
 pub mod Accesses
 pub mod KeyInstructions
-pub mod Named
 -- The rules held to the sentences of the documents: the table, key and prefix instructions, and rows computed
 pub mod TableLines
 pub mod Sentences
@@ -32,14 +31,5 @@ pub mod Order
 -- The channel
 pub mod ChannelSteps
 pub mod ChannelRows
--- Condition 3: the law about lists of actions, and that the step obeys it
-pub mod Actions
-pub mod Fetches
-pub mod Parts
-pub mod Dependence
-pub mod Steps
-pub mod Turns
-pub mod TurnFacts
-pub mod Naming
--- The conditions
+-- Conditions 1 and 2
 pub mod Conditions

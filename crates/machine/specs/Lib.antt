@@ -19,10 +19,9 @@ pub mod Step
 pub mod Pair
 -- The channel (02, W4)
 pub mod Channel
--- Lists and units named, for the third condition
-pub mod Units
+-- A request of a list as a turn
 pub mod Turns
--- The three conditions
+-- Conditions 1 and 2
 pub mod Conditions
 -- Table of small facts, and the examples of document 02
 pub mod SmallFacts

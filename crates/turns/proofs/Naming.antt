@@ -9,28 +9,29 @@ use mathlib.Core.Option.{Option, none, some}
 use mathlib.Core.List.{List}
 use native.Mathlib.Omega.{arith}
 use lib.ListN.{length}
 use Rattle.machine.specs.declared.Settings.{Settings}
 use Rattle.machine.specs.declared.Processor.{Processor}
 use Rattle.machine.specs.declared.AccessKind.{AccessKind}
 use Rattle.machine.specs.declared.Request.{Request}
 use Rattle.machine.specs.declared.Request.the-variants.{Access, Key, Prefix}
 use Rattle.machine.specs.declared.Reason.{Reason}
 use Rattle.machine.specs.declared.Reason.the-variants.{Configuration, Record, Protection}
 use Rattle.machine.specs.declared.Verdict.{Verdict}
 use Rattle.machine.specs.declared.Verdict.the-variants.{Clear, Stop}
 use Rattle.machine.specs.Answers.{number, numberOf, answerOf, line, firstOf, firstLine}
 use Rattle.machine.specs.Numbers.{lengthsValid}
 use Rattle.machine.specs.KeyInstructions.{keyCount, twoKeys}
 use Rattle.machine.specs.Table.{addressing, protection, beforeProtection, verdict}
 use Rattle.machine.specs.Step.{step}
 use Rattle.machine.specs.Pair.{withoutRecord, served, pairStep}
-use Rattle.machine.specs.Units.{unitCount, unitAt, names}
-use Rattle.machine.specs.Turns.{State, Turn, given, named, namedBy}
+use Rattle.turns.specs.Units.{unitCount, unitAt, names}
+use Rattle.machine.specs.Turns.{State, Turn, given}
+use Rattle.turns.specs.Units.{named, namedBy}
 use Rattle.machine.proofs.Verdicts.{not-both, bytes-stopped, Never, never-line, never-first, never-bytes}
-use Rattle.machine.proofs.Units.{named-at, named-by}
+use Rattle.turns.proofs.Named.{named-at, named-by}
 use Rattle.machine.proofs.BeforeProtection.{access-cleared}
 use Rattle.machine.proofs.Requests.{by-verdict, completed-number, completed-cleared, completed-by-table, no-protection}
-use Rattle.machine.proofs.Parts.{recordFound}
+use Rattle.turns.proofs.Parts.{recordFound}
 
 -- the numbers with which a request names units
 abbrev pub NamingNumber : Request → ℕ → Type 0

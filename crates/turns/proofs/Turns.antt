@@ -10,14 +10,16 @@ use native.Mathlib.Omega.{arith}
 use mathlib.Core.List.{List, [], _∷_}
 use lib.Dec.{eqb, ltb}
 use borrow.Author.Tests.{eqb-true, le-ltb}
 use Rattle.machine.specs.declared.Settings.{Settings}
 use Rattle.machine.specs.declared.Processor.{Processor}
 use Rattle.machine.specs.Numbers.{unitOf}
-use Rattle.machine.specs.Turns.{run, Every, State, Turn, next, Carries, named, namedBy, isFetch, firstThenSecond, AnyOrder, AsFirstThenSecond}
-use Rattle.machine.proofs.Actions.{Mode, untouched, fetch, write, Free, only-first, only-second, fetches, every, through, gives, AllFree, any-turns}
+use Rattle.machine.specs.Turns.{State, Turn, next}
+use Rattle.turns.specs.TwoLists.{run, Every, Carries, firstThenSecond, AnyOrder, AsFirstThenSecond}
+use Rattle.turns.specs.Units.{named, namedBy, isFetch}
+use Rattle.turns.proofs.Actions.{Mode, untouched, fetch, write, Free, only-first, only-second, fetches, every, through, gives, AllFree, any-turns}
 use Rattle.machine.proofs.Verdicts.{tested, not-both}
-use Rattle.machine.proofs.Parts.{Part, byte, key, processor, lengths, mode, recordFound, unitModeBy, unitMode}
-use Rattle.machine.proofs.Steps.{laws}
+use Rattle.turns.proofs.Parts.{Part, byte, key, processor, lengths, mode, recordFound, unitModeBy, unitMode}
+use Rattle.turns.proofs.Steps.{laws}
 
 -- a request of processor j's list does not treat another processor's record
 other-record : (i j : ℕ) (m : State) (t : Turn) → Carries j m t → i ≢ j → eqb i (t .processorNumber) && ltb i 2 ≡ false

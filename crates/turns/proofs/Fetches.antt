@@ -5,25 +5,25 @@ use mathlib.Core.Path.{_≡_, refl, sym, ap, _∙_}
 use mathlib.Core.Bool.{true}
 use mathlib.Core.List.{List}
 use lib.ListN.{length, getD}
 use Rattle.machine.specs.declared.Settings.{Settings}
 use Rattle.machine.specs.declared.Processor.{Processor}
 use Rattle.machine.specs.declared.Request.{Request}
 use Rattle.machine.specs.declared.Request.the-variants.{Access, Key, Prefix}
 use Rattle.machine.specs.declared.AccessKind.{AccessKind}
 use Rattle.machine.specs.declared.AccessKind.the-variants.{Fetch, Store}
 use Rattle.machine.specs.declared.Verdict.the-variants.{Clear}
 use Rattle.machine.specs.Numbers.{add24}
 use Rattle.machine.specs.Key.{accessControl, fetchProtection, afterFetch}
 use Rattle.machine.specs.Protection.{permitted, forbidden}
 use Rattle.machine.specs.Table.{protection, verdict}
 use Rattle.machine.specs.Step.{step}
-use Rattle.machine.specs.Units.{unitAt, unitCount, names}
-use Rattle.machine.specs.Turns.{isFetch}
+use Rattle.turns.specs.Units.{unitAt, unitCount, names}
+use Rattle.turns.specs.Units.{isFetch}
 use Rattle.machine.proofs.Verdicts.{not-both, bytes-same}
 use Rattle.machine.proofs.KeyBytes.{key-recorded}
-use Rattle.machine.proofs.Units.{named-by}
+use Rattle.turns.proofs.Named.{named-by}
 use Rattle.machine.proofs.Requests.{completed-by-table}
 use Rattle.machine.proofs.Accesses.{access-leaves-key, fetch-leaves-storage}
 
 pub fetched-twice : (k : ℕ) → afterFetch (afterFetch k) ≡ afterFetch k
 unfolding afterFetch

@@ -11,29 +11,30 @@ use native.Mathlib.Omega.{arith}
 use lib.Dec.{eqb, ltb}
 use lib.ListN.{length, getD, getElem?}
 use borrow.Author.Tests.{ltb-false, eq-eqb}
 use Rattle.machine.specs.declared.Settings.{Settings}
 use Rattle.machine.specs.declared.Processor.{Processor}
 use Rattle.machine.specs.declared.Verdict.{Verdict}
 use Rattle.machine.specs.declared.Verdict.the-variants.{Clear, Stop}
 use Rattle.machine.specs.Numbers.{unitOf}
 use Rattle.machine.specs.Key.{afterFetch}
 use Rattle.machine.specs.Answers.{firstOf}
 use Rattle.machine.specs.Table.{verdict}
 use Rattle.machine.specs.Step.{Outcome, performed, step}
 use Rattle.machine.specs.Pair.{PairOutcome, served, pairStep}
-use Rattle.machine.specs.Units.{names}
-use Rattle.machine.specs.Turns.{State, Turn, Given, next, given, namedBy, isFetch}
-use Rattle.machine.proofs.Actions.{untouched, fetch, write, Alike, Leaves, AlikeTo, Laws}
+use Rattle.turns.specs.Units.{names}
+use Rattle.machine.specs.Turns.{State, Turn, Given, next, given}
+use Rattle.turns.specs.Units.{namedBy, isFetch}
+use Rattle.turns.proofs.Actions.{untouched, fetch, write, Alike, Leaves, AlikeTo, Laws}
 use Rattle.machine.proofs.Verdicts.{tested, not-both}
-use Rattle.machine.proofs.Units.{named-at}
-use Rattle.machine.proofs.Fetches.{same-protection, fetch-keeps-storage, fetch-leaves-keys}
+use Rattle.turns.proofs.Named.{named-at}
+use Rattle.turns.proofs.Fetches.{same-protection, fetch-keeps-storage, fetch-leaves-keys}
 use Rattle.machine.proofs.BeforeProtection.{table-clear}
 use Rattle.machine.proofs.Requests.{lengths-stay}
 use Rattle.machine.proofs.Pairs.{by-record, other-record-stays, other-number-refused, lookup-set-agree}
-use Rattle.machine.proofs.Named.{only-named-bytes-change, only-named-keys-change}
-use Rattle.machine.proofs.Parts.{Part, byte, key, processor, lengths, Value, read, whole, touch, touch-twice, isClear, treatment, mode}
-use Rattle.machine.proofs.Parts.{recordFound, beforeOf, verdictOf, unitModeBy, unitMode}
-use Rattle.machine.proofs.Dependence.{byte-same, key-same, record-same, answer-same, buffer-same}
+use Rattle.turns.proofs.Named.{only-named-bytes-change, only-named-keys-change}
+use Rattle.turns.proofs.Parts.{Part, byte, key, processor, lengths, Value, read, whole, touch, touch-twice, isClear, treatment, mode}
+use Rattle.turns.proofs.Parts.{recordFound, beforeOf, verdictOf, unitModeBy, unitMode}
+use Rattle.turns.proofs.Dependence.{byte-same, key-same, record-same, answer-same, buffer-same}
 
 -- what is left of a part that is named or not, by a fetch or not, which completes or not
 left-of : {P : Type 0} (t : P → P) (v w : P) (isNamed isFetched completes : Bool)

@@ -4,7 +4,7 @@
 use mathlib.Core.Path.{_≡_, refl, sym, ap, _∙_}
 use mathlib.Core.Bool.{Bool, true, false, cond}
 use mathlib.Core.List.{List, [], _∷_}
-use Rattle.machine.specs.Turns.{Order, done, first, second, run, Every}
+use Rattle.turns.specs.TwoLists.{Order, done, first, second, run, Every}
 
 -- how an action treats a part: not at all; it fetches it, and completes that or not; or it does anything else with it
 pub data Mode : Type 0 where

@@ -11,26 +11,27 @@ use native.Mathlib.Omega.{arith}
 use lib.ListN.{length, getD, set, replicate, length-set}
 use lib.Seq.{getD-set-same, set-set}
 use borrow.Author.Tests.{ne-eqb}
 use Rattle.machine.specs.declared.Settings.{Settings}
 use Rattle.machine.specs.declared.Processor.{Processor}
 use Rattle.machine.specs.declared.Request.{Request}
 use Rattle.machine.specs.declared.Request.the-variants.{Access, Key, Prefix}
 use Rattle.machine.specs.declared.KeyInstruction.the-variants.{Ssk, Iske}
 use Rattle.machine.specs.declared.PrefixInstruction.the-variants.{SetPrefix}
 use Rattle.machine.specs.declared.AccessKind.the-variants.{Fetch, Store}
 use Rattle.machine.specs.Lists.{written}
 use Rattle.machine.specs.Key.{keyOf, afterStore, joined}
 use Rattle.machine.specs.Answers.{line, firstOf, firstByte, firstLine}
 use Rattle.machine.specs.Prefixing.{prefixed}
 use Rattle.machine.specs.Protection.{permitted, lowProtected}
 use Rattle.machine.specs.KeyInstructions.{wordGiven, keysLeft, codeLeft}
 use Rattle.machine.specs.Table.{addressing, protection, beforeProtection, verdict}
 use Rattle.machine.specs.Step.{storageLeft, bufferLeft, keysRecorded, completed, performed, step}
 use Rattle.machine.specs.Pair.{served, pairStep}
 use Rattle.machine.specs.Lists.{anyBelow}
-use Rattle.machine.specs.Units.{names}
-use Rattle.machine.specs.Turns.{Order, done, first, second, End, run, State, Turn, Given, next, given, Every, Unnamed, Apart}
-use Rattle.machine.proofs.Turns.{any-order}
+use Rattle.turns.specs.Units.{names}
+use Rattle.machine.specs.Turns.{State, Turn, Given, next, given}
+use Rattle.turns.specs.TwoLists.{Order, done, first, second, End, run, Every, Unnamed, Apart}
+use Rattle.turns.proofs.Turns.{any-order}
 
 -- 2K units, extensions present; prefixes 0 and 4096, PSW key 0, supervisor, bit 3 off; zero keys
 abbrev settings : Settings

@@ -1,0 +1,4 @@
+-- Condition 3.
+pub mod Units
+pub mod TwoLists
+pub mod Conditions

@@ -20,9 +20,9 @@ use machine::Processor;
 use machine::Reason;
 use machine::Request;
 use machine::Settings;
-use machine::answers::answer_of;
-use machine::answers::stops;
 use storage_key::permissions;
+use table::answers::answer_of;
+use table::answers::stops;
 ghost use mathlib.Core.Path.{_≡_};
 ghost use Rattle.machine.specs.Step.{outcome, step};
 

@@ -1,9 +1,9 @@
 // The spans of an access: an access touches at most two units, and its span in each has one displacement from real to absolute addresses.
 use machine::Processor;
 use machine::Settings;
-use machine::numbers::unit_of;
 use prefixing::add24;
 use prefixing::prefixed;
+use table::numbers::unit_of;
 ghost use Prim.Native.Nat.{_<_};
 ghost use mathlib.Core.Path.{_≡_};
 ghost use lib.ListN.{length};

@@ -1,9 +1,9 @@
 // Completing one span of an access: recording the access in the key of its unit, and moving its bytes.
 use crate::span::Span;
 use machine::AccessKind;
-use machine::numbers::ADDRESS_SPACE;
 use prefixing::add24;
 use storage_key::recorded;
+use table::numbers::ADDRESS_SPACE;
 ghost use Prim.Native.Nat.{_+_, _-_, _<_};
 ghost use mathlib.Core.Path.{_≡_};
 ghost use lib.ListN.{length};

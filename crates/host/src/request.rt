@@ -1,6 +1,6 @@
 // Answers as numbers.
 use machine::Answer;
-use machine::answers::number_of;
+use table::answers::number_of;
 ghost use mathlib.Core.Path.{_≡_};
 ghost use Rattle.host.specs.Boundary.{Packs};
 

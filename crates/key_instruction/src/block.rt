@@ -1,8 +1,8 @@
 // The block that an instruction designates: its real address, the unit of its first key, and the rule of prefixing.
 use machine::Processor;
 use machine::Settings;
-use machine::numbers::unit_of;
 use prefixing::prefixed;
+use table::numbers::unit_of;
 ghost use mathlib.Core.Path.{_≡_};
 ghost use Rattle.machine.specs.Numbers.{unitOf};
 ghost use Rattle.machine.specs.Prefixing.{absolute, rule};

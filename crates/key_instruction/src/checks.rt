@@ -4,8 +4,8 @@ use machine::Processor;
 use machine::Reason;
 use machine::Settings;
 use machine::Verdict;
-use machine::answers::stops;
-use machine::numbers::valid;
+use table::answers::stops;
+use table::numbers::valid;
 ghost use mathlib.Core.Path.{_≡_};
 ghost use Rattle.key_instruction.specs.Lines.{basicLines, extendedLines};
 

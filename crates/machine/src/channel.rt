@@ -1,7 +1,5 @@
 // The channel: a request of its list, a CCW, the channel's record, and what comes back. All by value.
 use crate::AccessKind;
-ghost use mathlib.Core.Path.{_≡_};
-ghost use Rattle.machine.specs.Channel.{channelNumber};
 
 // A request: the channel's key, the address of the first CCW, and how many CCWs are granted. Each is any number.
 pub struct ChannelRequest {
@@ -99,19 +97,4 @@ pub struct ChannelReply {
     pub answer: ChannelAnswer,
     pub count: u32,
     pub state: ChannelRecord,
-}
-
-// The number of document 02 for a reason.
-pub fn channel_number_of(reason: ChannelReason) -> u32
-    ensures { λ r. ⌜ r ≡ channelNumber reason ⌝ }
-{
-    match reason {
-        ChannelReason::Configuration => 64,
-        ChannelReason::ChannelKey => 65,
-        ChannelReason::Grant => 66,
-        ChannelReason::GrantUsed => 74,
-        ChannelReason::Program => 71,
-        ChannelReason::Protection => 72,
-        ChannelReason::Device => 73,
-    }
 }

@@ -1,6 +1,6 @@
 // The lines that a run writes: texts and decimal numbers, put into a lent output one behind the other.
 use machine::Answer;
-use machine::answers::number_of;
+use table::answers::number_of;
 ghost use mathlib.Core.Path.{_≡_};
 ghost use Prim.Native.Nat.{_+_, _≤_};
 ghost use lib.ListN.{length};

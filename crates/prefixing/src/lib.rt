@@ -1,6 +1,6 @@
 // Addresses: the 24-bit addition that makes each byte's real address, and real to absolute.
 use machine::Prefixed;
-use machine::numbers::ADDRESS_SPACE;
+use table::numbers::ADDRESS_SPACE;
 ghost use mathlib.Core.Path.{_≡_};
 ghost use Rattle.machine.specs.Bits.{bits};
 ghost use Rattle.machine.specs.Numbers.{add24 as sum24};

@@ -1,6 +1,6 @@
 // Number, place, word and rule of an answer.
 use machine::Answer;
-use machine::answers::number_of;
+use table::answers::number_of;
 ghost use mathlib.Core.Path.{_≡_};
 ghost use Rattle.machine.specs.Answers.{numberOf, placeOf, wordOf, ruleOf};
 

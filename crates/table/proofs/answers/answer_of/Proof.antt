@@ -1,7 +1,7 @@
 -- `answer_of` gives the rules' `answerOf`: by the cases of the verdict. Assumes nothing.
 use borrow.Author.Needs.{needs}
-use Rattle.machine.proofs.answers.answer_of.Statement.{statement}
-use Rattle.machine.proofs.answers.answer_of.Tie as tie
+use Rattle.table.proofs.answers.answer_of.Statement.{statement}
+use Rattle.table.proofs.answers.answer_of.Tie as tie
 
 enum-told : tie.Need-enum-told
 enum-told c = search needs

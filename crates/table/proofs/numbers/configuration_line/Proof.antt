@@ -1,7 +1,7 @@
 -- `configuration_line` is line 64, once the lengths are tested. Assumes nothing.
 use borrow.Author.Needs.{needs}
-use Rattle.machine.proofs.numbers.configuration_line.Statement.{statement}
-use Rattle.machine.proofs.numbers.configuration_line.Tie as tie
+use Rattle.table.proofs.numbers.configuration_line.Statement.{statement}
+use Rattle.table.proofs.numbers.configuration_line.Tie as tie
 
 lengths-valid-requires : tie.Need-lengths-valid-requires
 lengths-valid-requires c κs = search needs

@@ -1,7 +1,7 @@
 -- `without_record` gives line 64 and then line 65. Assumes nothing.
 use borrow.Author.Needs.{needs}
-use Rattle.machine.proofs.numbers.without_record.Statement.{statement}
-use Rattle.machine.proofs.numbers.without_record.Tie as tie
+use Rattle.table.proofs.numbers.without_record.Statement.{statement}
+use Rattle.table.proofs.numbers.without_record.Tie as tie
 
 configuration-line-requires : tie.Need-configuration-line-requires
 configuration-line-requires c κs = search needs

@@ -1,0 +1,4 @@
+-- What the proofs about the channel share.
+pub mod Places
+pub mod Ranges
+pub mod Words

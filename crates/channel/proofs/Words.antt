@@ -1,0 +1,81 @@
+-- The CCW: its numbers byte by byte, and what is known of the operation it asks for. Assumes nothing.
+use Prim.Native.Nat.{ℕ, _+_, _*_, _%_, _<_}
+use mathlib.Core.Path.{_≡_, refl, sym, ap, _∙_}
+use mathlib.Core.Bool.{Bool, true, false, cond, not, _||_}
+use mathlib.Core.List.{List}
+use native.Mathlib.Omega.{arith}
+use lib.Dec.{eqb}
+use lib.ListN.{getD}
+use borrow.Author.Tests.{eqb-false}
+use Rattle.machine.specs.declared.AccessKind.{AccessKind}
+use Rattle.machine.specs.declared.AccessKind.the-variants.{Fetch, Store}
+use Rattle.machine.specs.declared.channel.Ccw.{Ccw}
+use Rattle.machine.specs.declared.channel.ChannelOperation.{ChannelOperation}
+use Rattle.machine.specs.declared.channel.ChannelOperation.the-variants.{TransferInChannel, Data, Invalid}
+use Rattle.machine.specs.Bits.{field}
+use Rattle.machine.specs.Channel.{bigEndian, ccwAt, dataOperation, operationOf}
+
+big-endian-one : (bytes : List ℕ) (i : ℕ) → getD bytes i 0 ≡ bigEndian 1 bytes i
+unfolding bigEndian
+big-endian-one bytes i = omega arith
+
+big-endian-two : (bytes : List ℕ) (i : ℕ) → getD bytes i 0 * 256 + getD bytes (i + 1) 0 ≡ bigEndian 2 bytes i
+unfolding bigEndian
+big-endian-two bytes i = omega arith
+
+big-endian-three : (bytes : List ℕ) (i : ℕ)
+    → getD bytes i 0 * 65536 + (getD bytes (i + 1) 0 * 256 + getD bytes (i + 1 + 1) 0) ≡ bigEndian 3 bytes i
+unfolding bigEndian
+big-endian-three bytes i = omega arith
+
+pub ccw-read : (bytes : List ℕ) (a : ℕ) {address count : ℕ}
+    → address ≡ getD bytes (a + 1) 0 * 65536 + (getD bytes (a + 2) 0 * 256 + getD bytes (a + 3) 0)
+    → count ≡ getD bytes (a + 6) 0 * 256 + getD bytes (a + 7) 0
+    → record { command = getD bytes a 0; address = address; flags = getD bytes (a + 4) 0; count = count } ≡ ccwAt bytes a
+unfolding ccwAt
+ccw-read bytes a {address} {count} address-is count-is =
+    let second : a + 2 ≡ a + 1 + 1 = omega arith in
+    let third : a + 3 ≡ a + 1 + 1 + 1 = omega arith in
+    let last : a + 7 ≡ a + 6 + 1 = omega arith in
+    let addressed : address ≡ bigEndian 3 bytes (a + 1) = address-is ∙ rw (third, second) (big-endian-three bytes (a + 1)) in
+    let counted : count ≡ bigEndian 2 bytes (a + 6) = count-is ∙ rw last (big-endian-two bytes (a + 6)) in
+    rw (addressed, counted, big-endian-one bytes a, big-endian-one bytes (a + 4)) refl
+
+-- the command, by remainders
+pub operation-tests : (c : Ccw)
+    → operationOf c
+    ≡ cond (eqb (c .command % 4) 1) (dataOperation Fetch c)
+    (cond (eqb (c .command % 4) 2) (dataOperation Store c)
+    (cond (eqb (c .command % 16) 8) (TransferInChannel (c .address)) Invalid))
+unfolding operationOf
+operation-tests c =
+    let low-two : field 8 6 7 (c .command) ≡ c .command % 4 = omega arith in
+    let low-four : field 8 4 7 (c .command) ≡ c .command % 16 = omega arith in
+    rw (low-two, low-four) refl
+
+-- the count of a data operation is that of the CCW, and is not zero
+abbrev pub Counted : ℕ → ChannelOperation → Type 0
+Counted limit (TransferInChannel address) = Unit {0}
+Counted limit (Data kind address count chains) = (0 < count) × (count < limit)
+Counted limit Invalid = Unit {0}
+
+data-counted : (kind : AccessKind) (c : Ccw) (limit : ℕ) → c .count < limit → Counted limit (dataOperation kind c)
+data-counted kind c limit h = go (not (eqb (c .flags) 0 || eqb (c .flags) 64)) (eqb (c .count) 0) refl
+  where
+    go : (bad zero : Bool) → eqb (c .count) 0 ≡ zero
+        → Counted limit (cond (bad || zero) Invalid (Data kind (c .address) (c .count) (eqb (c .flags) 64)))
+    go true zero e = tt
+    go false true e = tt
+    go false false e =
+        let nonzero : c .count ≡ 0 → ⊥ = eqb-false _ _ e in
+        (omega arith, h)
+
+pub operation-counted : (c : Ccw) (limit : ℕ) → c .count < limit → Counted limit (operationOf c)
+operation-counted c limit h = rw operation-tests (go (eqb (c .command % 4) 1) (eqb (c .command % 4) 2) (eqb (c .command % 16) 8))
+  where
+    go : (a b d : Bool)
+        → Counted limit (cond a (dataOperation Fetch c) (cond b (dataOperation Store c) (cond d (TransferInChannel (c .address)) Invalid)))
+    go true b d = data-counted Fetch c limit h
+    go false true d = data-counted Store c limit h
+    go false false true = tt
+    go false false false = tt

@@ -1,0 +1,108 @@
+-- `range_forbidden` tests the units from the first to the last. The invariant: those passed forbid nothing.
+-- Assumes nothing.
+use Prim.Native.Nat.{_+_, _-_, _≤_}
+use mathlib.Core.Path.{_≡_, refl}
+use mathlib.Core.Bool.{false}
+use native.Mathlib.Omega.{arith}
+use borrow.Author.Tests.{not-true, not-false}
+use Rattle.machine.specs.Lists.{anyBelow}
+use Rattle.channel.proofs.Ranges.{unitsForbid, units-in-order, unit-forbids, no-unit-forbids, permits-more}
+use borrow.Author.Needs.{needs}
+use Rattle.channel.proofs.range.range_forbidden.Statement.{statement}
+use Rattle.channel.proofs.range.range_forbidden.Tie as tie
+
+abbrev Inv-loop : tie.InvT-loop
+Inv-loop access-key keys start count allowed first last i₀ i =
+    (first + i ≤ last + 1) × (unitsForbid allowed keys first i ≡ false)
+
+abbrev μ-loop : tie.MeasureT-loop
+μ-loop access-key keys start count allowed first last i₀ i =
+    last + 1 - (first + i)
+
+permissions-requires : tie.Need-permissions-requires Inv-loop μ-loop
+permissions-requires c κs = search needs
+
+unit-of-requires : tie.Need-unit-of-requires Inv-loop μ-loop
+unit-of-requires c κs = search needs
+
+sub-unit-of : tie.Need-sub-unit-of Inv-loop μ-loop
+sub-unit-of c = search needs
+
+add-unit-of : tie.Need-add-unit-of Inv-loop μ-loop
+add-unit-of c = search needs
+
+unit-of-requires-2 : tie.Need-unit-of-requires-2 Inv-loop μ-loop
+unit-of-requires-2 c κs = search needs
+
+loop-holds : tie.Need-loop-holds Inv-loop μ-loop
+unfolding unitsForbid anyBelow
+loop-holds c =
+    (omega (arith, units-in-order (c .before .before .before .before .args .settings) _ _ _ _ (omega arith) (c .before .unit-of .ensures) (c .unit-of2 .ensures)), refl)
+
+add-loop : tie.Need-add-loop Inv-loop μ-loop
+add-loop c = search needs
+
+add-permits : tie.Need-add-permits Inv-loop μ-loop
+add-permits c = search needs
+
+shared-slice-read-permits : tie.Need-shared-slice-read-permits Inv-loop μ-loop
+shared-slice-read-permits c = search needs
+
+permits-requires : tie.Need-permits-requires Inv-loop μ-loop
+permits-requires c κs = search needs
+
+returns : tie.Need-returns Inv-loop μ-loop
+returns c =
+    let told = c .before in
+    let turn = told .before .before .before in
+    let ranged = turn .before in
+    let begun = ranged .before in
+    let asked = begun .before in
+    let given = asked .before .before .args in
+    unit-forbids (given .settings) (given .kind) _ _ (λ u. omega (arith, asked .before .shared-slice-known .given u)) _ (asked .permissions .ensures) _ _ (omega arith) _ _
+    (begun .unit-of .ensures) (ranged .unit-of2 .ensures) _ (told .before .before .loop-test .taken) (told .permits .ensures)
+    (not-true _ (c .if1 .taken))
+
+add-i : tie.Need-add-i Inv-loop μ-loop
+add-i c = search needs
+
+loop-less : tie.Need-loop-less Inv-loop μ-loop
+loop-less c = search needs
+
+loop-again : tie.Need-loop-again Inv-loop μ-loop
+loop-again c =
+    let told = c .before in
+    let turn = told .before .before .before in
+    (omega arith, permits-more _ _ _ _ (turn .loop .inv .1) (told .permits .ensures) (not-false _ (c .if1 .left)))
+
+returns-2 : tie.Need-returns-2 Inv-loop μ-loop
+returns-2 c =
+    let turn = c .before in
+    let ranged = turn .before in
+    let begun = ranged .before in
+    let asked = begun .before in
+    let given = asked .before .before .args in
+    no-unit-forbids (given .settings) (given .kind) _ _ (λ u. omega (arith, asked .before .shared-slice-known .given u)) _ (asked .permissions .ensures) _ _ (omega arith) _ _
+    (begun .unit-of .ensures) (ranged .unit-of2 .ensures) _ (turn .loop .inv .0) (c .loop-test .left) (turn .loop .inv .1)
+
+pub range-forbidden-spec : {M : Type 1} → statement M
+range-forbidden-spec =
+    tie.close
+    (tie.spec
+    Inv-loop
+    μ-loop
+    permissions-requires
+    unit-of-requires
+    sub-unit-of
+    add-unit-of
+    unit-of-requires-2
+    loop-holds
+    add-loop
+    add-permits
+    shared-slice-read-permits
+    permits-requires
+    returns
+    add-i
+    loop-less
+    loop-again
+    returns-2)

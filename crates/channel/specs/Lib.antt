@@ -1,0 +1,2 @@
+-- What the helpers of the channel mean.
+pub mod Ranges

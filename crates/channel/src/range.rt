@@ -1,0 +1,57 @@
+// A range of bytes under the channel's key, by unit: each of its units is tested, and its key written, once.
+use machine::AccessKind;
+use machine::Settings;
+use machine::numbers::unit_of;
+use storage_key::permissions;
+use storage_key::permits;
+use storage_key::recorded;
+ghost use mathlib.Core.Path.{_≡_};
+ghost use lib.ListN.{length};
+ghost use Rattle.machine.specs.Channel.{rangeForbidden, rangeRecorded};
+ghost use Rattle.channel.specs.Ranges.{Keyed};
+
+// A unit of the range has a key that forbids the access.
+pub(crate) fn range_forbidden(
+    settings: Settings,
+    kind: AccessKind,
+    access_key: u8,
+    keys: &[u8],
+    start: usize,
+    count: usize,
+) -> bool
+    requires { ⌜ Keyed settings (length (now keys)) start count ⌝ }
+    ensures { λ r. ⌜ r ≡ rangeForbidden settings kind «access_key» (now (keys .entry)) start count ⌝ }
+{
+    let allowed = permissions(kind, access_key);
+    let first = unit_of(settings, start);
+    let last = unit_of(settings, start + (count - 1));
+    let mut i = 0;
+    while first + i <= last {
+        if !permits(allowed, keys[first + i]) {
+            return true;
+        }
+        i += 1;
+    }
+    false
+}
+
+// A completed access writes the key of each unit of the range.
+pub(crate) fn record_range(
+    settings: Settings,
+    kind: AccessKind,
+    keys: &mut [u8],
+    start: usize,
+    count: usize,
+)
+    requires { ⌜ Keyed settings (length (now keys)) start count ⌝ }
+    ensures { λ _. ⌜ now (keys .exit) ≡ rangeRecorded settings kind (now (keys .entry)) start count ⌝ }
+{
+    let first = unit_of(settings, start);
+    let last = unit_of(settings, start + (count - 1));
+    let mut i = 0;
+    while first + i <= last {
+        let key = keys[first + i];
+        keys[first + i] = recorded(kind, key);
+        i += 1;
+    }
+}

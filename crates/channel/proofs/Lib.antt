@@ -2,3 +2,5 @@
 pub mod Places
 pub mod Ranges
 pub mod Words
+pub mod Requests
+pub mod Ccws

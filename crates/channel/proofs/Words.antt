@@ -13,6 +13,7 @@ use Rattle.machine.specs.declared.channel.Ccw.{Ccw}
 use Rattle.machine.specs.declared.channel.ChannelOperation.{ChannelOperation}
 use Rattle.machine.specs.declared.channel.ChannelOperation.the-variants.{TransferInChannel, Data, Invalid}
 use Rattle.machine.specs.Bits.{field}
+use Rattle.channel.specs.Requests.{Counted}
 use Rattle.machine.specs.Channel.{bigEndian, ccwAt, dataOperation, operationOf}
 
 big-endian-one : (bytes : List ℕ) (i : ℕ) → getD bytes i 0 ≡ bigEndian 1 bytes i
@@ -53,29 +54,29 @@ operation-tests c =
     let low-four : field 8 4 7 (c .command) ≡ c .command % 16 = omega arith in
     rw (low-two, low-four) refl
 
--- the count of a data operation is that of the CCW, and is not zero
-abbrev pub Counted : ℕ → ChannelOperation → Type 0
-Counted limit (TransferInChannel address) = Unit {0}
-Counted limit (Data kind address count chains) = (0 < count) × (count < limit)
-Counted limit Invalid = Unit {0}
-
-data-counted : (kind : AccessKind) (c : Ccw) (limit : ℕ) → c .count < limit → Counted limit (dataOperation kind c)
-data-counted kind c limit h = go (not (eqb (c .flags) 0 || eqb (c .flags) 64)) (eqb (c .count) 0) refl
+-- the count of a CCW that moves data is not zero, and is no greater than two bytes hold
+data-counted : (kind : AccessKind) (c : Ccw) → c .count < 65536 → Counted (dataOperation kind c)
+data-counted kind c h = go (not (eqb (c .flags) 0 || eqb (c .flags) 64)) (eqb (c .count) 0) refl
   where
     go : (bad zero : Bool) → eqb (c .count) 0 ≡ zero
-        → Counted limit (cond (bad || zero) Invalid (Data kind (c .address) (c .count) (eqb (c .flags) 64)))
+        → Counted (cond (bad || zero) Invalid (Data kind (c .address) (c .count) (eqb (c .flags) 64)))
     go true zero e = tt
     go false true e = tt
     go false false e =
         let nonzero : c .count ≡ 0 → ⊥ = eqb-false _ _ e in
         (omega arith, h)
 
-pub operation-counted : (c : Ccw) (limit : ℕ) → c .count < limit → Counted limit (operationOf c)
-operation-counted c limit h = rw operation-tests (go (eqb (c .command % 4) 1) (eqb (c .command % 4) 2) (eqb (c .command % 16) 8))
+pub operation-counted : (c : Ccw) → c .count < 65536 → Counted (operationOf c)
+operation-counted c h = rw operation-tests (go (eqb (c .command % 4) 1) (eqb (c .command % 4) 2) (eqb (c .command % 16) 8))
   where
     go : (a b d : Bool)
-        → Counted limit (cond a (dataOperation Fetch c) (cond b (dataOperation Store c) (cond d (TransferInChannel (c .address)) Invalid)))
-    go true b d = data-counted Fetch c limit h
-    go false true d = data-counted Store c limit h
+        → Counted (cond a (dataOperation Fetch c) (cond b (dataOperation Store c) (cond d (TransferInChannel (c .address)) Invalid)))
+    go true b d = data-counted Fetch c h
+    go false true d = data-counted Store c h
     go false false true = tt
     go false false false = tt
+
+-- and so of the operation that a fetched CCW asks for
+pub fetched-counted : (bytes : List ℕ) (a : ℕ) {c : Ccw} {operation : ChannelOperation} → (c ≡ ccwAt bytes a) × (c .count < 65536)
+    → operation ≡ operationOf c → Counted operation
+fetched-counted bytes a {c} read is = rw is (operation-counted c (read .1))

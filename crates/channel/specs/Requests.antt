@@ -1,0 +1,55 @@
+-- A request that passed its own lines, and what the helpers of a CCW mean.
+use Prim.Native.Nat.{ℕ, _+_, _-_, _<_, _≤_}
+use mathlib.Core.Path.{_≡_}
+use mathlib.Core.Bool.{true, cond}
+use Rattle.machine.specs.declared.Settings.{Settings}
+use Rattle.machine.specs.declared.AccessKind.{AccessKind}
+use Rattle.machine.specs.declared.AccessKind.the-variants.{Fetch, Store}
+use Rattle.machine.specs.declared.channel.ChannelRequest.{ChannelRequest}
+use Rattle.machine.specs.declared.channel.ChannelOperation.{ChannelOperation}
+use Rattle.machine.specs.declared.channel.ChannelOperation.the-variants.{TransferInChannel, Data, Invalid}
+use Rattle.machine.specs.declared.channel.ChannelRecord.{ChannelRecord}
+use Rattle.machine.specs.declared.channel.ChannelReason.the-variants.{Program}
+use Rattle.machine.specs.declared.channel.ChannelAnswer.the-variants.{Refused}
+use Rattle.machine.specs.declared.channel.Standing.the-variants.{UnderWay, Answered}
+use Rattle.machine.specs.declared.channel.ChannelProgress.{ChannelProgress}
+use Rattle.machine.specs.Numbers.{lengthsValid}
+use Rattle.machine.specs.Channel.{standingAs, transferAllowed, transferred}
+use Rattle.channel.specs.Ranges.{Keyed}
+
+-- the lines that are tested before the first CCW pass
+pub record Passed (s : Settings) (storageLength keyLength : ℕ) (q : ChannelRequest) : Type 0 where
+  pub lengths : lengthsValid s storageLength keyLength ≡ true
+  pub key : q .key ≤ 15
+  pub granted : 0 < q .grant
+  pub limited : q .grant ≤ 256
+
+-- the count of a CCW that moves data is not zero, and fits two bytes
+abbrev pub Counted : ChannelOperation → Type 0
+Counted (TransferInChannel address) = Unit {0}
+Counted (Data kind address count chains) = (0 < count) × (count < 65536)
+Counted Invalid = Unit {0}
+
+-- the data of a CCW that lies inside storage fits storage, and the device from a position on
+pub record DataFits (s : Settings) (storageLength keyLength ccw address count deviceLength position : ℕ) : Type 0 where
+  pub keyed : Keyed s keyLength address count
+  pub counted : count < 65536
+  pub inside : address + count ≤ storageLength
+  pub ccw-inside : ccw + 8 ≤ 16777216
+  pub device : position + count ≤ deviceLength
+
+-- one CCW more was fetched
+abbrev pub counted : ChannelProgress → ChannelProgress
+counted g = record { state = g .state; fetched = g .fetched + 1; standing = g .standing }
+
+-- how many bytes the device has left for a kind of access
+abbrev pub deviceLeft : AccessKind → (fromLength roomLength : ℕ) → ChannelRecord → ℕ
+deviceLeft Fetch fromLength roomLength r = roomLength - r .given
+deviceLeft Store fromLength roomLength r = fromLength - r .taken
+
+-- a transfer in channel that may be misplaced
+unfoldable pub afterTransfer : ℕ → ChannelProgress → ChannelProgress
+afterTransfer address g =
+    cond (transferAllowed (g .state .chaining))
+    (record { state = transferred address (g .state); fetched = g .fetched; standing = UnderWay })
+    (standingAs g (Answered (Refused Program)))

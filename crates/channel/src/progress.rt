@@ -1,0 +1,107 @@
+// How far a request has come: its progress where it is refused, where a CCW was fetched, and after each operation.
+use machine::channel::Chaining;
+use machine::channel::ChannelAnswer;
+use machine::channel::ChannelProgress;
+use machine::channel::ChannelReason;
+use machine::channel::ChannelRecord;
+use machine::channel::Standing;
+ghost use Prim.Native.Nat.{_+_, _<_};
+ghost use mathlib.Core.Path.{_≡_};
+ghost use Rattle.machine.specs.Channel.{standingAs, transferAllowed, afterData};
+ghost use Rattle.channel.specs.Requests.{counted as countedBy, afterTransfer};
+
+// The progress of a request that is refused.
+pub(crate) fn refused(progress: ChannelProgress, reason: ChannelReason) -> ChannelProgress
+    ensures { λ r. ⌜ r ≡ standingAs progress (Standing.Answered (ChannelAnswer.Refused reason)) ⌝ }
+{
+    let state = progress.state;
+    ChannelProgress {
+        state,
+        fetched: progress.fetched,
+        standing: Standing::Answered {
+            answer: ChannelAnswer::Refused { reason },
+        },
+    }
+}
+
+// The progress with one CCW more fetched.
+pub(crate) fn counted(progress: ChannelProgress) -> ChannelProgress
+    requires { ⌜ progress .fetched < 256 ⌝ }
+    ensures { λ r. ⌜ r ≡ countedBy progress ⌝ }
+{
+    let state = progress.state;
+    let standing = progress.standing;
+    ChannelProgress {
+        state,
+        fetched: progress.fetched + 1,
+        standing,
+    }
+}
+
+// A transfer in channel is allowed after a CCW that chains.
+fn transfer_allowed(chaining: Chaining) -> bool
+    ensures { λ r. ⌜ r ≡ transferAllowed chaining ⌝ }
+{
+    match chaining {
+        Chaining::First => false,
+        Chaining::Command => true,
+        Chaining::Transfer => false,
+        Chaining::Ended => false,
+    }
+}
+
+// A transfer in channel to the CCW at this address.
+pub(crate) fn transfer_in_channel(progress: ChannelProgress, address: u32) -> ChannelProgress
+    ensures { λ r. ⌜ r ≡ afterTransfer address progress ⌝ }
+{
+    let state = progress.state;
+    let chaining = state.chaining;
+    if !transfer_allowed(chaining) {
+        return refused(progress, ChannelReason::Program);
+    }
+    ChannelProgress {
+        state: ChannelRecord {
+            ccw: address,
+            chaining: Chaining::Transfer,
+            taken: state.taken,
+            given: state.given,
+        },
+        fetched: progress.fetched,
+        standing: Standing::UnderWay,
+    }
+}
+
+// The progress after data of which so many bytes were taken from the device and given to it.
+pub(crate) fn after_data(
+    progress: ChannelProgress,
+    chains: bool,
+    taken: usize,
+    given: usize,
+) -> ChannelProgress
+    requires { ⌜ (progress .state .ccw < 16777216) × (progress .state .taken + taken < 18446744073709551616)
+        × (progress .state .given + given < 18446744073709551616) ⌝ }
+    ensures { λ r. ⌜ r ≡ afterData chains taken given progress ⌝ }
+{
+    let chaining = if chains {
+        Chaining::Command
+    } else {
+        Chaining::Ended
+    };
+    let standing = if chains {
+        Standing::UnderWay
+    } else {
+        Standing::Answered {
+            answer: ChannelAnswer::Completed,
+        }
+    };
+    ChannelProgress {
+        state: ChannelRecord {
+            ccw: progress.state.ccw + 8,
+            chaining,
+            taken: progress.state.taken + taken,
+            given: progress.state.given + given,
+        },
+        fetched: progress.fetched,
+        standing,
+    }
+}

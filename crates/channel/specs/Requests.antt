@@ -2,6 +2,8 @@
 use Prim.Native.Nat.{ℕ, _+_, _-_, _<_, _≤_}
 use mathlib.Core.Path.{_≡_}
 use mathlib.Core.Bool.{true, cond}
+use mathlib.Core.List.{List}
+use mathlib.Core.Option.{Option, none, some}
 use Rattle.machine.specs.declared.Settings.{Settings}
 use Rattle.machine.specs.declared.AccessKind.{AccessKind}
 use Rattle.machine.specs.declared.AccessKind.the-variants.{Fetch, Store}
@@ -10,11 +12,15 @@ use Rattle.machine.specs.declared.channel.ChannelOperation.{ChannelOperation}
 use Rattle.machine.specs.declared.channel.ChannelOperation.the-variants.{TransferInChannel, Data, Invalid}
 use Rattle.machine.specs.declared.channel.ChannelRecord.{ChannelRecord}
 use Rattle.machine.specs.declared.channel.ChannelReason.the-variants.{Program}
+use Rattle.machine.specs.declared.channel.ChannelReason.{ChannelReason}
+use Rattle.machine.specs.declared.channel.ChannelAnswer.{ChannelAnswer}
 use Rattle.machine.specs.declared.channel.ChannelAnswer.the-variants.{Refused}
+use Rattle.machine.specs.declared.channel.ChannelReply.{ChannelReply}
+use Rattle.machine.specs.declared.channel.Standing.{Standing}
 use Rattle.machine.specs.declared.channel.Standing.the-variants.{UnderWay, Answered}
 use Rattle.machine.specs.declared.channel.ChannelProgress.{ChannelProgress}
 use Rattle.machine.specs.Numbers.{lengthsValid}
-use Rattle.machine.specs.Channel.{standingAs, transferAllowed, transferred}
+use Rattle.machine.specs.Channel.{Channel, standingAs, transferAllowed, transferred, steps, ChannelOutcome, outcomeIn}
 use Rattle.channel.specs.Ranges.{Keyed}
 
 -- the lines that are tested before the first CCW pass
@@ -53,3 +59,21 @@ afterTransfer address g =
     cond (transferAllowed (g .state .chaining))
     (record { state = transferred address (g .state); fetched = g .fetched; standing = UnderWay })
     (standingAs g (Answered (Refused Program)))
+
+-- a request under way that has not fetched more CCWs than are granted
+pub record Going (q : ChannelRequest) (g : ChannelProgress) : Type 0 where
+  pub standing : g .standing ≡ UnderWay
+  pub within : g .fetched ≤ q .grant
+
+-- the standing that the first refusal gives, if there is one
+unfoldable pub standingBy : Option ChannelReason → Standing
+standingBy none = UnderWay
+standingBy (some r) = Answered (Refused r)
+
+-- the reply of a request that has an answer
+abbrev pub replyOf : ChannelProgress → ChannelAnswer → ChannelReply
+replyOf g answer = record { answer = answer; count = g .fetched; state = g .state }
+
+-- the run of a request from some progress on: a step for each CCW of its grant that is left, and one more
+unfoldable pub runFrom : Settings → ChannelRequest → (fromDevice : List ℕ) → Channel → ChannelOutcome
+runFrom s q fromDevice c = outcomeIn (steps (q .grant + 1 - c .progress .fetched) s q fromDevice c)

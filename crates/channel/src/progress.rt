@@ -4,24 +4,46 @@ use machine::channel::ChannelAnswer;
 use machine::channel::ChannelProgress;
 use machine::channel::ChannelReason;
 use machine::channel::ChannelRecord;
+use machine::channel::ChannelRequest;
 use machine::channel::Standing;
 ghost use Prim.Native.Nat.{_+_, _<_};
 ghost use mathlib.Core.Path.{_≡_};
-ghost use Rattle.machine.specs.Channel.{standingAs, transferAllowed, afterData};
+ghost use Rattle.machine.specs.Channel.{begun, standingAs, transferAllowed, afterData};
 ghost use Rattle.channel.specs.Requests.{counted as countedBy, afterTransfer};
 
-// The progress of a request that is refused.
-pub(crate) fn refused(progress: ChannelProgress, reason: ChannelReason) -> ChannelProgress
-    ensures { λ r. ⌜ r ≡ standingAs progress (Standing.Answered (ChannelAnswer.Refused reason)) ⌝ }
+// The progress of a request that begins: its first CCW, and its two buffers used from their first bytes.
+pub(crate) fn begin(request: ChannelRequest) -> ChannelProgress
+    ensures { λ r. ⌜ r ≡ begun request ⌝ }
+{
+    ChannelProgress {
+        state: ChannelRecord {
+            ccw: request.first,
+            chaining: Chaining::First,
+            taken: 0,
+            given: 0,
+        },
+        fetched: 0,
+        standing: Standing::UnderWay,
+    }
+}
+
+// The progress of a request that is answered, all else being as it was.
+pub(crate) fn answered(progress: ChannelProgress, answer: ChannelAnswer) -> ChannelProgress
+    ensures { λ r. ⌜ r ≡ standingAs progress (Standing.Answered answer) ⌝ }
 {
     let state = progress.state;
     ChannelProgress {
         state,
         fetched: progress.fetched,
-        standing: Standing::Answered {
-            answer: ChannelAnswer::Refused { reason },
-        },
+        standing: Standing::Answered { answer },
     }
+}
+
+// The same for one that is refused.
+pub(crate) fn refused(progress: ChannelProgress, reason: ChannelReason) -> ChannelProgress
+    ensures { λ r. ⌜ r ≡ standingAs progress (Standing.Answered (ChannelAnswer.Refused reason)) ⌝ }
+{
+    answered(progress, ChannelAnswer::Refused { reason })
 }
 
 // The progress with one CCW more fetched.

@@ -1,0 +1,177 @@
+-- The rules alone: what a step does with the count of CCWs fetched, and the run of a request. A request that has answered stays as it is; a step
+-- that leaves the request under way fetched a CCW, which was granted; so a step counts one exactly where it fetches, and no more are counted
+-- than are granted.
+-- Assumes nothing.
+use Prim.Native.Nat.{ℕ, zero, suc, _+_, _-_, _<_, _≤_}
+use mathlib.Core.Path.{_≡_, refl, sym, ap, _∙_}
+use mathlib.Core.Bool.{Bool, true, false, cond, not, _&&_, _||_}
+use mathlib.Core.List.{List, [], _∷_, _++_}
+use mathlib.Core.Option.{Option, none, some}
+use native.Mathlib.Omega.{arith}
+use native.Mathlib.Numerals.{add-one}
+use lib.ListN.{length}
+use lib.Dec.{leb}
+use borrow.Author.Tests.{leb-false}
+use Rattle.machine.specs.declared.Settings.{Settings}
+use Rattle.machine.specs.declared.AccessKind.the-variants.{Fetch, Store}
+use Rattle.machine.specs.declared.channel.ChannelRequest.{ChannelRequest}
+use Rattle.machine.specs.declared.channel.ChannelReason.{ChannelReason}
+use Rattle.machine.specs.declared.channel.ChannelReason.the-variants.{GrantUsed}
+use Rattle.machine.specs.declared.channel.ChannelAnswer.{ChannelAnswer}
+use Rattle.machine.specs.declared.channel.ChannelAnswer.the-variants.{Refused}
+use Rattle.machine.specs.declared.channel.ChannelOperation.{ChannelOperation}
+use Rattle.machine.specs.declared.channel.ChannelOperation.the-variants.{TransferInChannel, Data, Invalid}
+use Rattle.machine.specs.declared.channel.Standing.{Standing}
+use Rattle.machine.specs.declared.channel.Standing.the-variants.{UnderWay, Answered}
+use Rattle.machine.specs.declared.channel.ChannelProgress.{ChannelProgress}
+use Rattle.machine.specs.Channel.{Channel, channel, refused, operationOf, ccwAt, firstRefusal, requestLines, addressLines, beforeFetching}
+use Rattle.machine.specs.Channel.{fetchingForbidden, beforeTransfer, dataForbidden, withCcwFetched, carriedOut, unlessRefused, unlessForbidden}
+use Rattle.machine.specs.Channel.{obeyed, nextCcw, stepBy, channelStep, steps, unrefused, fetchesBy, fetchesCcw, stepsThatFetch}
+
+-- a standing is not both
+pub not-under-way : {standing : Standing} {answer : ChannelAnswer} → standing ≡ Answered answer → standing ≡ UnderWay → ⊥
+not-under-way p q = let z : _≡_ {A = ℕ} 0 1 = cc in omega arith
+
+not-refused : {found : Option ChannelReason} {r : ChannelReason} → found ≡ some r → found ≡ none → ⊥
+not-refused p q = let z : _≡_ {A = ℕ} 0 1 = cc in omega arith
+
+-- where no line refuses, the first does not, and none behind it
+pub no-line : (l : Bool × ChannelReason) (ls : List (Bool × ChannelReason)) → firstRefusal (l ∷ ls) ≡ none
+    → (l .0 ≡ false) × (firstRefusal ls ≡ none)
+unfolding firstRefusal
+no-line l ls = go (l .0)
+  where
+    go : (b : Bool) → cond b (some (l .1)) (firstRefusal ls) ≡ none → (b ≡ false) × (firstRefusal ls ≡ none)
+    go true e = absurd (not-refused refl e)
+    go false e = (refl, e)
+
+-- a refusal by the first lines is that of all
+pub refused-before : (first rest : List (Bool × ChannelReason)) (r : ChannelReason) → firstRefusal first ≡ some r → firstRefusal (first ++ rest) ≡ some r
+unfolding firstRefusal
+refused-before [] rest r e = absurd (not-refused e refl)
+refused-before (l ∷ ls) rest r e = go (l .0) (refused-before ls rest r) e
+  where
+    go : (b : Bool) → (firstRefusal ls ≡ some r → firstRefusal (ls ++ rest) ≡ some r)
+        → cond b (some (l .1)) (firstRefusal ls) ≡ some r → cond b (some (l .1)) (firstRefusal (ls ++ rest)) ≡ some r
+    go true behind e = e
+    go false behind e = behind e
+
+module _ (s : Settings) (q : ChannelRequest) (fromDevice : List ℕ) where
+  -- where no line above the fetching refuses, a CCW is granted
+  pub granted : (c : Channel) → beforeFetching s q c ≡ none → c .progress .fetched < q .grant
+  unfolding beforeFetching
+  granted c e =
+      let behind-64 = no-line _ _ e .1 in
+      let behind-65 = no-line _ _ behind-64 .1 in
+      let behind-66 = no-line _ _ behind-65 .1 in
+      leb-false _ _ (no-line _ _ behind-66 .0)
+
+  -- what a CCW asks for leaves the count
+  carried-count : (o : ChannelOperation) (c : Channel) → carriedOut o s fromDevice c .progress .fetched ≡ c .progress .fetched
+  unfolding carriedOut
+  carried-count (TransferInChannel address) c = refl
+  carried-count (Data Fetch address count chains) c = refl
+  carried-count (Data Store address count chains) c = refl
+  carried-count Invalid c = refl
+
+  obeyed-count : (o : ChannelOperation) (c : Channel) → obeyed s q fromDevice o c .progress .fetched ≡ c .progress .fetched
+  unfolding obeyed
+  obeyed-count o c = go (beforeTransfer (length fromDevice) c o) (dataForbidden o s (q .key) (c .keys))
+    where
+      go : (line : Option ChannelReason) (forbidden : Bool)
+          → unlessRefused line c (unlessForbidden forbidden c (carriedOut o s fromDevice c)) .progress .fetched ≡ c .progress .fetched
+      go (some r) forbidden = refl
+      go none true = refl
+      go none false = carried-count o c
+
+  -- the CCW to come, by what is found before it is fetched
+  module _ (c : Channel) where
+    abbrev fetchedThen : Channel
+    fetchedThen = obeyed s q fromDevice (operationOf (ccwAt (c .storage) (c .progress .state .ccw))) (withCcwFetched s c)
+
+    abbrev by : Option ChannelReason → Bool → Channel
+    by line forbidden = unlessRefused line c (unlessForbidden forbidden c fetchedThen)
+
+    fetched-count : fetchedThen .progress .fetched ≡ 1 + c .progress .fetched
+    unfolding withCcwFetched
+    fetched-count = obeyed-count (operationOf (ccwAt (c .storage) (c .progress .state .ccw))) (withCcwFetched s c) ∙ omega arith
+
+    next-count : nextCcw s q fromDevice c .progress .fetched ≡ cond (fetchesBy UnderWay s q c) 1 0 + c .progress .fetched
+    unfolding nextCcw
+    next-count = go (beforeFetching s q c) (fetchingForbidden s q c)
+      where
+        go : (line : Option ChannelReason) (forbidden : Bool)
+            → by line forbidden .progress .fetched ≡ cond (unrefused line && not forbidden) 1 0 + c .progress .fetched
+        go (some r) forbidden = omega arith
+        go none true = omega arith
+        go none false = fetched-count
+
+    -- if the request is still under way, a CCW was fetched, and it was granted
+    pub still-under-way : nextCcw s q fromDevice c .progress .standing ≡ UnderWay
+        → (nextCcw s q fromDevice c .progress .fetched ≡ 1 + c .progress .fetched) × (c .progress .fetched < q .grant)
+    unfolding nextCcw
+    still-under-way = go (beforeFetching s q c) (fetchingForbidden s q c) refl
+      where
+        go : (line : Option ChannelReason) (forbidden : Bool) → beforeFetching s q c ≡ line → by line forbidden .progress .standing ≡ UnderWay
+            → (by line forbidden .progress .fetched ≡ 1 + c .progress .fetched) × (c .progress .fetched < q .grant)
+        go (some r) forbidden e stands = absurd (not-under-way refl stands)
+        go none true e stands = absurd (not-under-way refl stands)
+        go none false e stands = (fetched-count, granted c e)
+
+    pub refused-unfetched : (r : ChannelReason) → beforeFetching s q c ≡ some r → nextCcw s q fromDevice c ≡ refused r c
+    unfolding nextCcw
+    refused-unfetched r e = rw e refl
+
+    pub step-under-way : c .progress .standing ≡ UnderWay → channelStep s q fromDevice c ≡ nextCcw s q fromDevice c
+    unfolding channelStep
+    step-under-way stands = rw stands refl
+
+    pub step-answered : {answer : ChannelAnswer} → c .progress .standing ≡ Answered answer → channelStep s q fromDevice c ≡ c
+    unfolding channelStep
+    step-answered stands = rw stands refl
+
+    -- a step counts one exactly where it fetches
+    pub step-count : channelStep s q fromDevice c .progress .fetched ≡ cond (fetchesCcw s q c) 1 0 + c .progress .fetched
+    unfolding channelStep
+    step-count = go (c .progress .standing)
+      where
+        go : (standing : Standing)
+            → stepBy standing s q fromDevice c .progress .fetched ≡ cond (fetchesBy standing s q c) 1 0 + c .progress .fetched
+        go UnderWay = next-count
+        go (Answered answer) = omega arith
+
+    step-within : c .progress .fetched ≤ q .grant → channelStep s q fromDevice c .progress .fetched ≤ q .grant
+    unfolding channelStep nextCcw
+    step-within h = go (c .progress .standing)
+      where
+        by-line : (line : Option ChannelReason) (forbidden : Bool) → beforeFetching s q c ≡ line → by line forbidden .progress .fetched ≤ q .grant
+        by-line (some r) forbidden e = h
+        by-line none true e = h
+        by-line none false e = omega (arith, fetched-count, granted c e)
+
+        under-way : nextCcw s q fromDevice c .progress .fetched ≤ q .grant
+        under-way = by-line (beforeFetching s q c) (fetchingForbidden s q c) refl
+
+        go : (standing : Standing) → stepBy standing s q fromDevice c .progress .fetched ≤ q .grant
+        go UnderWay = under-way
+        go (Answered answer) = h
+
+  -- so many steps: the first, and then the others
+  pub first-of-steps : (n : ℕ) (c : Channel) → steps (suc n) s q fromDevice c ≡ steps n s q fromDevice (channelStep s q fromDevice c)
+  unfolding steps
+  first-of-steps n c = refl
+
+  pub answered-stays : (n : ℕ) (c : Channel) {answer : ChannelAnswer} → c .progress .standing ≡ Answered answer → steps n s q fromDevice c ≡ c
+  unfolding steps
+  answered-stays zero c stands = refl
+  answered-stays (suc n) c stands = rw (step-answered c stands) (answered-stays n c stands)
+
+  pub steps-count : (n : ℕ) (c : Channel) → steps n s q fromDevice c .progress .fetched ≡ stepsThatFetch n s q fromDevice c + c .progress .fetched
+  unfolding steps stepsThatFetch
+  steps-count zero c = omega arith
+  steps-count (suc n) c = omega (arith, steps-count n (channelStep s q fromDevice c), step-count c)
+
+  pub steps-within : (n : ℕ) (c : Channel) → c .progress .fetched ≤ q .grant → steps n s q fromDevice c .progress .fetched ≤ q .grant
+  unfolding steps
+  steps-within zero c h = h
+  steps-within (suc n) c h = steps-within n (channelStep s q fromDevice c) (step-within c h)

@@ -1,0 +1,52 @@
+use borrow.Author.Needs.{needs}
+use Rattle.channel.proofs.channel_request.Statement.{statement}
+use Rattle.channel.proofs.channel_request.Tie as tie
+
+begin-requires : tie.Need-begin-requires
+begin-requires c κs = search needs
+
+request-lines-requires : tie.Need-request-lines-requires
+request-lines-requires c κs = search needs
+
+enum-known-lines : tie.Need-enum-known-lines
+enum-known-lines c = search needs
+
+reply-requires : tie.Need-reply-requires
+reply-requires c κs = search needs
+
+enum-told : tie.Need-enum-told
+enum-told c = search needs
+
+execute-requires : tie.Need-execute-requires
+execute-requires c κs = ?
+
+returns : tie.Need-returns
+returns c = ?
+
+same-length : tie.Need-same-length
+same-length c = search needs
+
+same-length-2 : tie.Need-same-length-2
+same-length-2 c = search needs
+
+same-length-3 : tie.Need-same-length-3
+same-length-3 c = search needs
+
+returns-2 : tie.Need-returns-2
+returns-2 c = ?
+
+pub channel-request-spec : {M : Type 1} → statement M
+channel-request-spec =
+    tie.close
+    (tie.spec
+    begin-requires
+    request-lines-requires
+    enum-known-lines
+    reply-requires
+    enum-told
+    execute-requires
+    returns
+    same-length
+    same-length-2
+    same-length-3
+    returns-2)

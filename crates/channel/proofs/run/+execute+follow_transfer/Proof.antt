@@ -1,0 +1,510 @@
+-- The cycle of calls {execute, follow_transfer}: the measure of each is the part of the grant that is left. A CCW that leaves the request under
+-- way was granted and is counted, so it falls at each call; and what both mean is one run, so that the same laws serve both.
+-- Assumes nothing.
+use native.Mathlib.Omega.{arith}
+use Rattle.channel.proofs.Requests.{still-passed}
+use Rattle.channel.proofs.Replies.{run-ends, run-goes-on, still-going, grant-falls}
+use borrow.Author.Needs.{needs}
+use Prim.Native.Nat.{ℕ, _-_, _<_}
+use borrow.Fn.Kinds.{In}
+use borrow.Fn.PlainCycle.{Measures, is, falls, and}
+use Rattle.channel.proofs.run.execute.Reads as execute
+use Rattle.channel.proofs.run.execute.Kinds as execute-kinds
+use Rattle.channel.proofs.run.+execute+follow_transfer.Lts-execute as execute-lts
+use Rattle.channel.proofs.run.follow_transfer.Reads as follow-transfer
+use Rattle.channel.proofs.run.follow_transfer.Kinds as follow-transfer-kinds
+use Rattle.channel.proofs.run.+execute+follow_transfer.Lts-follow_transfer as follow-transfer-lts
+use Rattle.channel.proofs.program.next_ccw.Reads as next-ccw-reads
+use Rattle.channel.proofs.run.reply.Reads as reply-reads
+use Rattle.channel.proofs.run.+execute+follow_transfer.{statement}
+use Rattle.channel.proofs.run.+execute+follow_transfer.Tie.{close}
+
+abbrev μ-execute : Measures 4 execute-kinds.ps ℕ
+μ-execute κs a = a .1 .1 .1 .0 .grant - a .1 .1 .1 .1 .0 .fetched
+
+abbrev μ-follow-transfer : Measures 4 follow-transfer-kinds.ps ℕ
+μ-follow-transfer κs a = a .1 .1 .1 .0 .grant - a .1 .1 .1 .1 .0 .fetched
+
+abbrev execute-at : ℕ → In 4 execute-kinds.ps
+execute-at t = and 4 execute-kinds.ps (is 4 execute-kinds.ps μ-execute t) execute.Pre
+
+abbrev execute-below : ℕ → In 4 execute-kinds.ps
+execute-below t = and 4 execute-kinds.ps (falls 4 execute-kinds.ps _<_ μ-execute t) execute.Pre
+
+abbrev follow-transfer-at : ℕ → In 4 follow-transfer-kinds.ps
+follow-transfer-at t =
+    and
+    4
+    follow-transfer-kinds.ps
+    (is 4 follow-transfer-kinds.ps μ-follow-transfer t)
+    follow-transfer.Pre
+
+abbrev follow-transfer-below : ℕ → In 4 follow-transfer-kinds.ps
+follow-transfer-below t =
+    and
+    4
+    follow-transfer-kinds.ps
+    (falls 4 follow-transfer-kinds.ps _<_ μ-follow-transfer t)
+    follow-transfer.Pre
+
+execute-next-ccw-requires : (t : ℕ) → execute-lts.Need-next-ccw-requires (
+  next-ccw-reads.Asked,
+  next-ccw-reads.Learnt,
+  reply-reads.Asked,
+  reply-reads.Learnt,
+  follow-transfer-below t,
+  follow-transfer.Post,
+  execute-below t,
+  execute.Post,
+) (execute-at t) execute.Post
+execute-next-ccw-requires t c κs =
+    let start = c .before .before .before .before .before .before .before in
+    start .pre .1 .0
+
+execute-enum-known-standing : (t : ℕ) → execute-lts.Need-enum-known-standing (
+  next-ccw-reads.Asked,
+  next-ccw-reads.Learnt,
+  reply-reads.Asked,
+  reply-reads.Learnt,
+  follow-transfer-below t,
+  follow-transfer.Post,
+  execute-below t,
+  execute.Post,
+) (execute-at t) execute.Post
+execute-enum-known-standing t c = search needs
+
+execute-reply-requires : (t : ℕ) → execute-lts.Need-reply-requires (
+  next-ccw-reads.Asked,
+  next-ccw-reads.Learnt,
+  reply-reads.Asked,
+  reply-reads.Learnt,
+  follow-transfer-below t,
+  follow-transfer.Post,
+  execute-below t,
+  execute.Post,
+) (execute-at t) execute.Post
+execute-reply-requires t c κs = search needs
+
+execute-enum-told : (t : ℕ) → execute-lts.Need-enum-told (
+  next-ccw-reads.Asked,
+  next-ccw-reads.Learnt,
+  reply-reads.Asked,
+  reply-reads.Learnt,
+  follow-transfer-below t,
+  follow-transfer.Post,
+  execute-below t,
+  execute.Post,
+) (execute-at t) execute.Post
+execute-enum-told t c = search needs
+
+execute-enum-told-2 : (t : ℕ) → execute-lts.Need-enum-told-2 (
+  next-ccw-reads.Asked,
+  next-ccw-reads.Learnt,
+  reply-reads.Asked,
+  reply-reads.Learnt,
+  follow-transfer-below t,
+  follow-transfer.Post,
+  execute-below t,
+  execute.Post,
+) (execute-at t) execute.Post
+execute-enum-told-2 t c = search needs
+
+execute-follow-transfer-requires : (t : ℕ) → execute-lts.Need-follow-transfer-requires (
+  next-ccw-reads.Asked,
+  next-ccw-reads.Learnt,
+  reply-reads.Asked,
+  reply-reads.Learnt,
+  follow-transfer-below t,
+  follow-transfer.Post,
+  execute-below t,
+  execute.Post,
+) (execute-at t) execute.Post
+execute-follow-transfer-requires t c κs =
+    let told = c .before .before .before .before .before in
+    let did = told .before .before .before .before .before .before .before .before .before in
+    let start = did .before .before .before .before .before .before .before .before in
+    let passed = still-passed (start .pre .1 .0) (did .next-ccw .kept .1 .0) (did .next-ccw .kept .1 .1 .0) in
+    let going = still-going _ _ _ _ _ _ _ (start .pre .1 .1) (did .next-ccw .ensures) (told .enum-told .given .1) in
+    let falls = grant-falls _ _ _ _ _ _ _ (start .pre .1 .1) (did .next-ccw .ensures) (told .enum-told .given .1) in
+    (omega (arith, falls, start .pre .0), (passed, going))
+
+execute-execute-requires : (t : ℕ) → execute-lts.Need-execute-requires (
+  next-ccw-reads.Asked,
+  next-ccw-reads.Learnt,
+  reply-reads.Asked,
+  reply-reads.Learnt,
+  follow-transfer-below t,
+  follow-transfer.Post,
+  execute-below t,
+  execute.Post,
+) (execute-at t) execute.Post
+execute-execute-requires t c κs =
+    let told = c .before .before .before .before in
+    let did = told .before .before .before .before .before .before .before .before .before in
+    let start = did .before .before .before .before .before .before .before .before in
+    let passed = still-passed (start .pre .1 .0) (did .next-ccw .kept .1 .0) (did .next-ccw .kept .1 .1 .0) in
+    let going = still-going _ _ _ _ _ _ _ (start .pre .1 .1) (did .next-ccw .ensures) (told .enum-told .given .1) in
+    let falls = grant-falls _ _ _ _ _ _ _ (start .pre .1 .1) (did .next-ccw .ensures) (told .enum-told .given .1) in
+    (omega (arith, falls, start .pre .0), (passed, going))
+
+execute-same-length : (t : ℕ) → execute-lts.Need-same-length (
+  next-ccw-reads.Asked,
+  next-ccw-reads.Learnt,
+  reply-reads.Asked,
+  reply-reads.Learnt,
+  follow-transfer-below t,
+  follow-transfer.Post,
+  execute-below t,
+  execute.Post,
+) (execute-at t) execute.Post
+execute-same-length t c = search needs
+
+execute-same-length-2 : (t : ℕ) → execute-lts.Need-same-length-2 (
+  next-ccw-reads.Asked,
+  next-ccw-reads.Learnt,
+  reply-reads.Asked,
+  reply-reads.Learnt,
+  follow-transfer-below t,
+  follow-transfer.Post,
+  execute-below t,
+  execute.Post,
+) (execute-at t) execute.Post
+execute-same-length-2 t c = search needs
+
+execute-same-length-3 : (t : ℕ) → execute-lts.Need-same-length-3 (
+  next-ccw-reads.Asked,
+  next-ccw-reads.Learnt,
+  reply-reads.Asked,
+  reply-reads.Learnt,
+  follow-transfer-below t,
+  follow-transfer.Post,
+  execute-below t,
+  execute.Post,
+) (execute-at t) execute.Post
+execute-same-length-3 t c = search needs
+
+execute-returns : (t : ℕ) → execute-lts.Need-returns (
+  next-ccw-reads.Asked,
+  next-ccw-reads.Learnt,
+  reply-reads.Asked,
+  reply-reads.Learnt,
+  follow-transfer-below t,
+  follow-transfer.Post,
+  execute-below t,
+  execute.Post,
+) (execute-at t) execute.Post
+execute-returns t c =
+    let told = c .before .before in
+    let did = told .before .before .before .before .before .before .before .before .before in
+    let start = did .before .before .before .before .before .before .before .before in
+    run-ends _ _ _ _ _ _ _ (start .pre .1 .1) (did .next-ccw .ensures) (told .standing .given .1) (c .reply .ensures)
+
+execute-same-length-4 : (t : ℕ) → execute-lts.Need-same-length-4 (
+  next-ccw-reads.Asked,
+  next-ccw-reads.Learnt,
+  reply-reads.Asked,
+  reply-reads.Learnt,
+  follow-transfer-below t,
+  follow-transfer.Post,
+  execute-below t,
+  execute.Post,
+) (execute-at t) execute.Post
+execute-same-length-4 t c = search needs
+
+execute-same-length-5 : (t : ℕ) → execute-lts.Need-same-length-5 (
+  next-ccw-reads.Asked,
+  next-ccw-reads.Learnt,
+  reply-reads.Asked,
+  reply-reads.Learnt,
+  follow-transfer-below t,
+  follow-transfer.Post,
+  execute-below t,
+  execute.Post,
+) (execute-at t) execute.Post
+execute-same-length-5 t c = search needs
+
+execute-same-length-6 : (t : ℕ) → execute-lts.Need-same-length-6 (
+  next-ccw-reads.Asked,
+  next-ccw-reads.Learnt,
+  reply-reads.Asked,
+  reply-reads.Learnt,
+  follow-transfer-below t,
+  follow-transfer.Post,
+  execute-below t,
+  execute.Post,
+) (execute-at t) execute.Post
+execute-same-length-6 t c = search needs
+
+execute-returns-2 : (t : ℕ) → execute-lts.Need-returns-2 (
+  next-ccw-reads.Asked,
+  next-ccw-reads.Learnt,
+  reply-reads.Asked,
+  reply-reads.Learnt,
+  follow-transfer-below t,
+  follow-transfer.Post,
+  execute-below t,
+  execute.Post,
+) (execute-at t) execute.Post
+execute-returns-2 t c =
+    let further = c .before .before .before .before .before .before in
+    let told = further .before .before .before .before .before .before in
+    let did = told .before .before .before .before .before .before .before .before .before in
+    let start = did .before .before .before .before .before .before .before .before in
+    run-goes-on _ _ _ _ _ _ _ (start .pre .1 .1) (did .next-ccw .ensures) (further .follow-transfer .result) (told .enum-told .given .1) (further .follow-transfer .ensures)
+
+execute-same-length-7 : (t : ℕ) → execute-lts.Need-same-length-7 (
+  next-ccw-reads.Asked,
+  next-ccw-reads.Learnt,
+  reply-reads.Asked,
+  reply-reads.Learnt,
+  follow-transfer-below t,
+  follow-transfer.Post,
+  execute-below t,
+  execute.Post,
+) (execute-at t) execute.Post
+execute-same-length-7 t c = search needs
+
+execute-same-length-8 : (t : ℕ) → execute-lts.Need-same-length-8 (
+  next-ccw-reads.Asked,
+  next-ccw-reads.Learnt,
+  reply-reads.Asked,
+  reply-reads.Learnt,
+  follow-transfer-below t,
+  follow-transfer.Post,
+  execute-below t,
+  execute.Post,
+) (execute-at t) execute.Post
+execute-same-length-8 t c = search needs
+
+execute-same-length-9 : (t : ℕ) → execute-lts.Need-same-length-9 (
+  next-ccw-reads.Asked,
+  next-ccw-reads.Learnt,
+  reply-reads.Asked,
+  reply-reads.Learnt,
+  follow-transfer-below t,
+  follow-transfer.Post,
+  execute-below t,
+  execute.Post,
+) (execute-at t) execute.Post
+execute-same-length-9 t c = search needs
+
+execute-returns-3 : (t : ℕ) → execute-lts.Need-returns-3 (
+  next-ccw-reads.Asked,
+  next-ccw-reads.Learnt,
+  reply-reads.Asked,
+  reply-reads.Learnt,
+  follow-transfer-below t,
+  follow-transfer.Post,
+  execute-below t,
+  execute.Post,
+) (execute-at t) execute.Post
+execute-returns-3 t c =
+    let further = c .before .before .before .before .before .before in
+    let told = further .before .before .before .before .before in
+    let did = told .before .before .before .before .before .before .before .before .before in
+    let start = did .before .before .before .before .before .before .before .before in
+    run-goes-on _ _ _ _ _ _ _ (start .pre .1 .1) (did .next-ccw .ensures) (further .execute .result) (told .enum-told .given .1) (further .execute .ensures)
+
+follow-transfer-next-ccw-requires : (t : ℕ) → follow-transfer-lts.Need-next-ccw-requires (
+  next-ccw-reads.Asked,
+  next-ccw-reads.Learnt,
+  reply-reads.Asked,
+  reply-reads.Learnt,
+  execute-below t,
+  execute.Post,
+) (follow-transfer-at t) follow-transfer.Post
+follow-transfer-next-ccw-requires t c κs =
+    let start = c .before .before .before .before .before .before .before in
+    start .pre .1 .0
+
+follow-transfer-enum-known-standing : (t : ℕ) → follow-transfer-lts.Need-enum-known-standing (
+  next-ccw-reads.Asked,
+  next-ccw-reads.Learnt,
+  reply-reads.Asked,
+  reply-reads.Learnt,
+  execute-below t,
+  execute.Post,
+) (follow-transfer-at t) follow-transfer.Post
+follow-transfer-enum-known-standing t c = search needs
+
+follow-transfer-reply-requires : (t : ℕ) → follow-transfer-lts.Need-reply-requires (
+  next-ccw-reads.Asked,
+  next-ccw-reads.Learnt,
+  reply-reads.Asked,
+  reply-reads.Learnt,
+  execute-below t,
+  execute.Post,
+) (follow-transfer-at t) follow-transfer.Post
+follow-transfer-reply-requires t c κs = search needs
+
+follow-transfer-enum-told : (t : ℕ) → follow-transfer-lts.Need-enum-told (
+  next-ccw-reads.Asked,
+  next-ccw-reads.Learnt,
+  reply-reads.Asked,
+  reply-reads.Learnt,
+  execute-below t,
+  execute.Post,
+) (follow-transfer-at t) follow-transfer.Post
+follow-transfer-enum-told t c = search needs
+
+follow-transfer-execute-requires : (t : ℕ) → follow-transfer-lts.Need-execute-requires (
+  next-ccw-reads.Asked,
+  next-ccw-reads.Learnt,
+  reply-reads.Asked,
+  reply-reads.Learnt,
+  execute-below t,
+  execute.Post,
+) (follow-transfer-at t) follow-transfer.Post
+follow-transfer-execute-requires t c κs =
+    let told = c .before .before .before in
+    let did = told .before .before .before .before .before .before .before .before in
+    let start = did .before .before .before .before .before .before .before .before in
+    let passed = still-passed (start .pre .1 .0) (did .next-ccw .kept .1 .0) (did .next-ccw .kept .1 .1 .0) in
+    let going = still-going _ _ _ _ _ _ _ (start .pre .1 .1) (did .next-ccw .ensures) (told .enum-told .given .1) in
+    let falls = grant-falls _ _ _ _ _ _ _ (start .pre .1 .1) (did .next-ccw .ensures) (told .enum-told .given .1) in
+    (omega (arith, falls, start .pre .0), (passed, going))
+
+follow-transfer-same-length : (t : ℕ) → follow-transfer-lts.Need-same-length (
+  next-ccw-reads.Asked,
+  next-ccw-reads.Learnt,
+  reply-reads.Asked,
+  reply-reads.Learnt,
+  execute-below t,
+  execute.Post,
+) (follow-transfer-at t) follow-transfer.Post
+follow-transfer-same-length t c = search needs
+
+follow-transfer-same-length-2 : (t : ℕ) → follow-transfer-lts.Need-same-length-2 (
+  next-ccw-reads.Asked,
+  next-ccw-reads.Learnt,
+  reply-reads.Asked,
+  reply-reads.Learnt,
+  execute-below t,
+  execute.Post,
+) (follow-transfer-at t) follow-transfer.Post
+follow-transfer-same-length-2 t c = search needs
+
+follow-transfer-same-length-3 : (t : ℕ) → follow-transfer-lts.Need-same-length-3 (
+  next-ccw-reads.Asked,
+  next-ccw-reads.Learnt,
+  reply-reads.Asked,
+  reply-reads.Learnt,
+  execute-below t,
+  execute.Post,
+) (follow-transfer-at t) follow-transfer.Post
+follow-transfer-same-length-3 t c = search needs
+
+follow-transfer-returns : (t : ℕ) → follow-transfer-lts.Need-returns (
+  next-ccw-reads.Asked,
+  next-ccw-reads.Learnt,
+  reply-reads.Asked,
+  reply-reads.Learnt,
+  execute-below t,
+  execute.Post,
+) (follow-transfer-at t) follow-transfer.Post
+follow-transfer-returns t c =
+    let told = c .before .before in
+    let did = told .before .before .before .before .before .before .before .before in
+    let start = did .before .before .before .before .before .before .before .before in
+    run-ends _ _ _ _ _ _ _ (start .pre .1 .1) (did .next-ccw .ensures) (told .standing .given .1) (c .reply .ensures)
+
+follow-transfer-same-length-4 : (t : ℕ) → follow-transfer-lts.Need-same-length-4 (
+  next-ccw-reads.Asked,
+  next-ccw-reads.Learnt,
+  reply-reads.Asked,
+  reply-reads.Learnt,
+  execute-below t,
+  execute.Post,
+) (follow-transfer-at t) follow-transfer.Post
+follow-transfer-same-length-4 t c = search needs
+
+follow-transfer-same-length-5 : (t : ℕ) → follow-transfer-lts.Need-same-length-5 (
+  next-ccw-reads.Asked,
+  next-ccw-reads.Learnt,
+  reply-reads.Asked,
+  reply-reads.Learnt,
+  execute-below t,
+  execute.Post,
+) (follow-transfer-at t) follow-transfer.Post
+follow-transfer-same-length-5 t c = search needs
+
+follow-transfer-same-length-6 : (t : ℕ) → follow-transfer-lts.Need-same-length-6 (
+  next-ccw-reads.Asked,
+  next-ccw-reads.Learnt,
+  reply-reads.Asked,
+  reply-reads.Learnt,
+  execute-below t,
+  execute.Post,
+) (follow-transfer-at t) follow-transfer.Post
+follow-transfer-same-length-6 t c = search needs
+
+follow-transfer-returns-2 : (t : ℕ) → follow-transfer-lts.Need-returns-2 (
+  next-ccw-reads.Asked,
+  next-ccw-reads.Learnt,
+  reply-reads.Asked,
+  reply-reads.Learnt,
+  execute-below t,
+  execute.Post,
+) (follow-transfer-at t) follow-transfer.Post
+follow-transfer-returns-2 t c =
+    let further = c .before .before .before .before .before .before in
+    let told = further .before .before .before .before in
+    let did = told .before .before .before .before .before .before .before .before in
+    let start = did .before .before .before .before .before .before .before .before in
+    run-goes-on _ _ _ _ _ _ _ (start .pre .1 .1) (did .next-ccw .ensures) (further .execute .result) (told .enum-told .given .1) (further .execute .ensures)
+
+pub +execute+follow-transfer-spec : {M : Type 1} → statement M
++execute+follow-transfer-spec = close μ-execute μ-follow-transfer (λ t. execute-lts.spec (
+  next-ccw-reads.Asked,
+  next-ccw-reads.Learnt,
+  reply-reads.Asked,
+  reply-reads.Learnt,
+  follow-transfer-below t,
+  follow-transfer.Post,
+  execute-below t,
+  execute.Post,
+)
+    (execute-at t)
+    execute.Post
+    (execute-next-ccw-requires t)
+    (execute-enum-known-standing t)
+    (execute-reply-requires t)
+    (execute-enum-told t)
+    (execute-enum-told-2 t)
+    (execute-follow-transfer-requires t)
+    (execute-execute-requires t)
+    (execute-same-length t)
+    (execute-same-length-2 t)
+    (execute-same-length-3 t)
+    (execute-returns t)
+    (execute-same-length-4 t)
+    (execute-same-length-5 t)
+    (execute-same-length-6 t)
+    (execute-returns-2 t)
+    (execute-same-length-7 t)
+    (execute-same-length-8 t)
+    (execute-same-length-9 t)
+    (execute-returns-3 t))
+    λ t. follow-transfer-lts.spec (
+      next-ccw-reads.Asked,
+      next-ccw-reads.Learnt,
+      reply-reads.Asked,
+      reply-reads.Learnt,
+      execute-below t,
+      execute.Post,
+    )
+    (follow-transfer-at t)
+    follow-transfer.Post
+    (follow-transfer-next-ccw-requires t)
+    (follow-transfer-enum-known-standing t)
+    (follow-transfer-reply-requires t)
+    (follow-transfer-enum-told t)
+    (follow-transfer-execute-requires t)
+    (follow-transfer-same-length t)
+    (follow-transfer-same-length-2 t)
+    (follow-transfer-same-length-3 t)
+    (follow-transfer-returns t)
+    (follow-transfer-same-length-4 t)
+    (follow-transfer-same-length-5 t)
+    (follow-transfer-same-length-6 t)
+    (follow-transfer-returns-2 t)

@@ -169,6 +169,6 @@ module _ (s : Settings) (q : ChannelRequest) (fromDevice storage keys room : Lis
   unfolding channelRun runFrom
   request-executed reply begins outcome = promised reply (rw begins at outcome ∙ rw (sub-zero) refl)
 
-  -- the request is under way at its start
-  pub begun-going : {g : ChannelProgress} → g ≡ begun q → Going q g
-  begun-going begins = rw begins (record { standing = refl; within = omega arith })
+-- a request is under way at its start
+pub begun-going : (q : ChannelRequest) {g : ChannelProgress} → g ≡ begun q → Going q g
+begun-going q begins = rw begins (record { standing = refl; within = omega arith })

@@ -1,3 +1,5 @@
+-- `channel_request`: one that its own lines refuse is answered at its start, and else the run from the start is executed. Assumes nothing.
+use Rattle.channel.proofs.Replies.{lines-pass, begun-going, request-refused, request-executed}
 use borrow.Author.Needs.{needs}
 use Rattle.channel.proofs.channel_request.Statement.{statement}
 use Rattle.channel.proofs.channel_request.Tie as tie
@@ -18,10 +20,16 @@ enum-told : tie.Need-enum-told
 enum-told c = search needs
 
 execute-requires : tie.Need-execute-requires
-execute-requires c κs = ?
+execute-requires c κs =
+    let told = c .before .before .before in
+    let asked = told .before .before in
+    (lines-pass _ _ _ _ (asked .request-lines .ensures) (told .enum-told .given .1), begun-going _ (asked .before .begin .ensures))
 
 returns : tie.Need-returns
-returns c = ?
+returns c =
+    let told = c .before .before in
+    let asked = told .before .before in
+    request-refused _ _ _ _ _ _ (asked .request-lines .ensures) (told .lines .given .1) (asked .before .begin .ensures) (c .reply .ensures)
 
 same-length : tie.Need-same-length
 same-length c = search needs
@@ -33,7 +41,10 @@ same-length-3 : tie.Need-same-length-3
 same-length-3 c = search needs
 
 returns-2 : tie.Need-returns-2
-returns-2 c = ?
+returns-2 c =
+    let done = c .before .before .before .before .before .before in
+    let begun = done .before .before .before .before .before .before .before in
+    request-executed _ _ _ _ _ _ (done .execute .result) (begun .begin .ensures) (done .execute .ensures)
 
 pub channel-request-spec : {M : Type 1} → statement M
 channel-request-spec =

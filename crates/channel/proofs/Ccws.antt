@@ -3,19 +3,18 @@
 -- Assumes nothing.
 use Prim.Native.Nat.{ℕ, _+_, _-_, _%_, _<_, _≤_}
 use mathlib.Core.Path.{_≡_, refl, sym, ap, _∙_}
-use mathlib.Core.Bool.{Bool, true, false, cond, not, _||_}
-use mathlib.Core.List.{List, []}
-use mathlib.Core.Option.{Option, none, some}
+use mathlib.Core.Bool.{Bool, true, false, not, _||_}
+use mathlib.Core.List.{List}
+use mathlib.Core.Option.{none}
 use native.Mathlib.Omega.{arith}
-use lib.Dec.{eqb, leb, ltb}
+use lib.Dec.{eqb, ltb}
 use lib.ListN.{length, getD, set}
-use borrow.Author.Tests.{le-ltb, lt-ltb, le-leb, lt-leb, ne-eqb, eqb-true, ltb-false, not-false}
+use borrow.Author.Tests.{le-ltb, lt-ltb, le-leb, lt-leb, ne-eqb, eqb-true, not-false}
 use Rattle.machine.specs.declared.Settings.{Settings}
 use Rattle.machine.specs.declared.AccessKind.{AccessKind}
 use Rattle.machine.specs.declared.AccessKind.the-variants.{Fetch, Store}
 use Rattle.machine.specs.declared.channel.Ccw.{Ccw}
 use Rattle.machine.specs.declared.channel.ChannelRequest.{ChannelRequest}
-use Rattle.machine.specs.declared.channel.ChannelRecord.{ChannelRecord}
 use Rattle.machine.specs.declared.channel.ChannelReason.{ChannelReason}
 use Rattle.machine.specs.declared.channel.ChannelReason.the-variants.{GrantUsed, Program, Protection, Device}
 use Rattle.machine.specs.declared.channel.ChannelAnswer.the-variants.{Refused}
@@ -28,7 +27,7 @@ use Rattle.machine.specs.Protection.{permitted, recorded}
 use Rattle.machine.specs.Channel.{ccwAt, operationOf, outside, rangeForbidden, rangeRecorded, bytesMoved, Channel, channel, standingAs}
 use Rattle.machine.specs.Channel.{firstRefusal, addressLines, beforeFetching, deviceShort, transferAllowed, beforeTransfer, withCcwFetched}
 use Rattle.machine.specs.Channel.{afterData, carriedOut, obeyed, nextCcw}
-use Rattle.machine.proofs.Verdicts.{tested, neither}
+use Rattle.machine.proofs.Verdicts.{neither}
 use Rattle.channel.specs.Requests.{Passed, counted, deviceLeft, afterTransfer}
 use Rattle.channel.proofs.Ranges.{ccw-forbidden, ccw-recorded}
 

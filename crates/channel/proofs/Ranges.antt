@@ -1,15 +1,15 @@
 -- A range by unit: what is found of its units one after another is what the rules say of its bytes. Assumes nothing.
 use Prim.Native.Nat.{ℕ, zero, suc, _+_, _-_, _%_, _<_, _≤_}
 use mathlib.Core.Path.{_≡_, refl, sym, ap, _∙_}
-use mathlib.Core.Bool.{Bool, true, false, not, _||_}
+use mathlib.Core.Bool.{Bool, true, false, not}
 use mathlib.Core.List.{List}
 use native.Mathlib.Omega.{arith}
 use native.Mathlib.Numerals.{add-one}
-use lib.ListN.{length, getD, set}
+use lib.ListN.{getD, set}
 use Rattle.machine.specs.declared.Settings.{Settings}
 use Rattle.machine.specs.declared.AccessKind.{AccessKind}
 use Rattle.machine.specs.Lists.{written, anyBelow}
-use Rattle.machine.specs.Numbers.{unitSize, unitOf}
+use Rattle.machine.specs.Numbers.{unitOf}
 use Rattle.machine.specs.Protection.{permitted, recorded}
 use Rattle.machine.specs.Channel.{rangeForbidden, rangeRecorded}
 use Rattle.machine.proofs.Verdicts.{any-at}

@@ -2,9 +2,8 @@
 -- lines is refused at its first step; else a step is the CCW to come, and a run that goes on is the run from what the CCW left. The counts
 -- follow from the run.
 -- Assumes nothing.
-use Prim.Native.Nat.{ℕ, zero, suc, _+_, _-_, _<_, _≤_}
+use Prim.Native.Nat.{ℕ, suc, _+_, _-_, _<_, _≤_}
 use mathlib.Core.Path.{_≡_, refl, sym, ap, _∙_}
-use mathlib.Core.Bool.{Bool, true, false, not}
 use mathlib.Core.List.{List}
 use mathlib.Core.Option.{Option, none, some}
 use native.Mathlib.Omega.{arith}
@@ -21,8 +20,8 @@ use Rattle.machine.specs.declared.channel.ChannelReply.{ChannelReply}
 use Rattle.machine.specs.declared.channel.Standing.{Standing}
 use Rattle.machine.specs.declared.channel.Standing.the-variants.{UnderWay, Answered}
 use Rattle.machine.specs.declared.channel.ChannelProgress.{ChannelProgress}
-use Rattle.machine.specs.Channel.{Channel, channel, standingAs, refused, firstRefusal, requestLines, addressLines, beforeFetching, nextCcw, channelStep}
-use Rattle.machine.specs.Channel.{begun, steps, ChannelOutcome, outcomeIn, channelOutcome, channelRun, stepsThatFetch}
+use Rattle.machine.specs.Channel.{Channel, channel, standingAs, firstRefusal, requestLines, beforeFetching, nextCcw, channelStep}
+use Rattle.machine.specs.Channel.{begun, steps, ChannelOutcome, channelOutcome, channelRun, stepsThatFetch}
 use Rattle.machine.proofs.Verdicts.{neither}
 use Rattle.channel.specs.Requests.{Passed, Going, standingBy, replyOf, runFrom}
 use Rattle.channel.proofs.Runs.{not-under-way, no-line, refused-before, refused-unfetched, step-under-way, step-answered, still-under-way}

@@ -1,10 +1,10 @@
 -- What is known of a request whose own lines pass: the lengths, and that a range inside storage has its keys. Assumes nothing.
-use Prim.Native.Nat.{ℕ, _+_, _-_, _*_, _/_, _%_, _<_, _≤_}
-use mathlib.Core.Path.{_≡_, refl, sym, ap, _∙_}
+use Prim.Native.Nat.{ℕ, _+_, _-_, _/_, _%_, _<_, _≤_}
+use mathlib.Core.Path.{_≡_}
 use mathlib.Core.Bool.{Bool, true, false, not, _&&_, _||_}
 use native.Mathlib.Omega.{arith}
 use lib.Dec.{eqb, leb, ltb}
-use borrow.Author.Tests.{eqb-true, leb-true, eqb-false, ltb-false, not-false}
+use borrow.Author.Tests.{eqb-true, leb-true, ltb-false}
 use Rattle.machine.specs.declared.Settings.{Settings}
 use Rattle.machine.specs.declared.AccessKind.{AccessKind}
 use Rattle.machine.specs.declared.channel.ChannelRequest.{ChannelRequest}

@@ -3,28 +3,23 @@
 -- than are granted.
 -- Assumes nothing.
 use Prim.Native.Nat.{ℕ, zero, suc, _+_, _-_, _<_, _≤_}
-use mathlib.Core.Path.{_≡_, refl, sym, ap, _∙_}
-use mathlib.Core.Bool.{Bool, true, false, cond, not, _&&_, _||_}
+use mathlib.Core.Path.{_≡_, refl, _∙_}
+use mathlib.Core.Bool.{Bool, true, false, cond, not, _&&_}
 use mathlib.Core.List.{List, [], _∷_, _++_}
 use mathlib.Core.Option.{Option, none, some}
 use native.Mathlib.Omega.{arith}
-use native.Mathlib.Numerals.{add-one}
 use lib.ListN.{length}
-use lib.Dec.{leb}
 use borrow.Author.Tests.{leb-false}
 use Rattle.machine.specs.declared.Settings.{Settings}
 use Rattle.machine.specs.declared.AccessKind.the-variants.{Fetch, Store}
 use Rattle.machine.specs.declared.channel.ChannelRequest.{ChannelRequest}
 use Rattle.machine.specs.declared.channel.ChannelReason.{ChannelReason}
-use Rattle.machine.specs.declared.channel.ChannelReason.the-variants.{GrantUsed}
 use Rattle.machine.specs.declared.channel.ChannelAnswer.{ChannelAnswer}
-use Rattle.machine.specs.declared.channel.ChannelAnswer.the-variants.{Refused}
 use Rattle.machine.specs.declared.channel.ChannelOperation.{ChannelOperation}
 use Rattle.machine.specs.declared.channel.ChannelOperation.the-variants.{TransferInChannel, Data, Invalid}
 use Rattle.machine.specs.declared.channel.Standing.{Standing}
 use Rattle.machine.specs.declared.channel.Standing.the-variants.{UnderWay, Answered}
-use Rattle.machine.specs.declared.channel.ChannelProgress.{ChannelProgress}
-use Rattle.machine.specs.Channel.{Channel, channel, refused, operationOf, ccwAt, firstRefusal, requestLines, addressLines, beforeFetching}
+use Rattle.machine.specs.Channel.{Channel, refused, operationOf, ccwAt, firstRefusal, beforeFetching}
 use Rattle.machine.specs.Channel.{fetchingForbidden, beforeTransfer, dataForbidden, withCcwFetched, carriedOut, unlessRefused, unlessForbidden}
 use Rattle.machine.specs.Channel.{obeyed, nextCcw, stepBy, channelStep, steps, unrefused, fetchesBy, fetchesCcw, stepsThatFetch}
 

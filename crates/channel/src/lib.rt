@@ -23,7 +23,6 @@ use machine::channel::Standing;
 use machine::numbers::lengths_valid;
 ghost use Prim.Native.Nat.{_+_, _≤_};
 ghost use mathlib.Core.Path.{_≡_};
-ghost use lib.ListN.{length};
 ghost use Rattle.machine.specs.Channel.{firstRefusal, requestLines, channel, channelStep, channelOutcome, channelRun, stepsThatFetch, begun};
 ghost use Rattle.channel.specs.Requests.{standingBy};
 

@@ -53,7 +53,8 @@ fn give_data(
     count: u32,
     chains: bool,
 ) -> ChannelProgress
-    requires { ⌜ DataFits settings (length (now storage)) (length (now keys)) (progress .state .ccw) address count (length (now room)) (progress .state .given) ⌝ }
+    requires { ⌜ DataFits settings (length (now storage)) (length (now keys)) (progress .state .ccw) address count
+        (length (now room)) (progress .state .given) ⌝ }
     ensures { λ r. ⌜ (now (keys .exit) ≡ rangeRecorded settings AccessKind.Fetch (now (keys .entry)) address count)
         × (now (room .exit) ≡ bytesMoved (now (room .entry)) (progress .state .given) (now (storage .entry)) address count)
         × (r ≡ afterData chains 0 count progress) ⌝ }
@@ -76,7 +77,8 @@ fn take_data(
     count: u32,
     chains: bool,
 ) -> ChannelProgress
-    requires { ⌜ DataFits settings (length (now storage)) (length (now keys)) (progress .state .ccw) address count (length (now «from_device»)) (progress .state .taken) ⌝ }
+    requires { ⌜ DataFits settings (length (now storage)) (length (now keys)) (progress .state .ccw) address count
+        (length (now «from_device»)) (progress .state .taken) ⌝ }
     ensures { λ r. ⌜ (now (keys .exit) ≡ rangeRecorded settings AccessKind.Store (now (keys .entry)) address count)
         × (now (storage .exit) ≡ bytesMoved (now (storage .entry)) address (now («from_device» .entry)) (progress .state .taken) count)
         × (r ≡ afterData chains count 0 progress) ⌝ }

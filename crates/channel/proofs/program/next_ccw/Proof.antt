@@ -1,9 +1,7 @@
 -- `next_ccw` tests the lines in their order; the CCW that it fetches lies in one unit, whose key it reads and writes once. Assumes nothing.
-use native.Mathlib.Omega.{arith}
 use mathlib.Core.Path.{refl, _∙_}
 use lib.ListN.{length-set}
-use borrow.Author.Tests.{not-true, not-false, ltb-false}
-use Rattle.machine.proofs.Verdicts.{neither}
+use borrow.Author.Tests.{not-true, not-false}
 use Rattle.channel.proofs.Words.{fetched-counted}
 use Rattle.channel.proofs.Requests.{ccw-keyed, ccw-inside, still-passed}
 use Rattle.channel.proofs.Ccws.{used-up, misplaced, forbidden, fetched}
@@ -94,7 +92,9 @@ obey-requires c κs =
     let read = known .before in
     let placed = read .before .before .before .before .before .before .before .before in
     let start = placed .before .before .before .before .before .before .before .before .before in
-    (still-passed (start .pre) refl (length-set (start .args .keys .now) _ _), (rw (counted .counted .ensures) (ccw-inside _ _ (placed .if2 .left)), fetched-counted _ _ (read .ccw-at .ensures) (known .operation-of .ensures)))
+    let passed = still-passed (start .pre) refl (length-set (start .args .keys .now) _ _) in
+    let asked = fetched-counted _ _ (read .ccw-at .ensures) (known .operation-of .ensures) in
+    (passed, (rw (counted .counted .ensures) (ccw-inside _ _ (placed .if2 .left)), asked))
 
 same-length : tie.Need-same-length
 same-length c = search needs

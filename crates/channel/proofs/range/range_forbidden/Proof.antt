@@ -37,7 +37,9 @@ unit-of-requires-2 c κs = search needs
 loop-holds : tie.Need-loop-holds Inv-loop μ-loop
 unfolding unitsForbid anyBelow
 loop-holds c =
-    (omega (arith, units-in-order (c .before .before .before .before .args .settings) _ _ _ _ (omega arith) (c .before .unit-of .ensures) (c .unit-of2 .ensures)), refl)
+    let begun = c .before in
+    let given = begun .before .before .before .args in
+    (omega (arith, units-in-order (given .settings) _ _ _ _ (omega arith) (begun .unit-of .ensures) (c .unit-of2 .ensures)), refl)
 
 add-loop : tie.Need-add-loop Inv-loop μ-loop
 add-loop c = search needs
@@ -59,8 +61,9 @@ returns c =
     let begun = ranged .before in
     let asked = begun .before in
     let given = asked .before .before .args in
-    unit-forbids (given .settings) (given .kind) _ _ (λ u. omega (arith, asked .before .shared-slice-known .given u)) _ (asked .permissions .ensures) _ _ (omega arith) _ _
-    (begun .unit-of .ensures) (ranged .unit-of2 .ensures) _ (told .before .before .loop-test .taken) (told .permits .ensures)
+    unit-forbids (given .settings) (given .kind) _ _ (λ u. omega (arith, asked .before .shared-slice-known .given u)) _
+    (asked .permissions .ensures) _ _ (omega arith) _ _ (begun .unit-of .ensures) (ranged .unit-of2 .ensures) _
+    (told .before .before .loop-test .taken) (told .permits .ensures)
     (not-true _ (c .if1 .taken))
 
 add-i : tie.Need-add-i Inv-loop μ-loop
@@ -82,8 +85,9 @@ returns-2 c =
     let begun = ranged .before in
     let asked = begun .before in
     let given = asked .before .before .args in
-    no-unit-forbids (given .settings) (given .kind) _ _ (λ u. omega (arith, asked .before .shared-slice-known .given u)) _ (asked .permissions .ensures) _ _ (omega arith) _ _
-    (begun .unit-of .ensures) (ranged .unit-of2 .ensures) _ (turn .loop .inv .0) (c .loop-test .left) (turn .loop .inv .1)
+    no-unit-forbids (given .settings) (given .kind) _ _ (λ u. omega (arith, asked .before .shared-slice-known .given u)) _
+    (asked .permissions .ensures) _ _ (omega arith) _ _ (begun .unit-of .ensures) (ranged .unit-of2 .ensures) _
+    (turn .loop .inv .0) (c .loop-test .left) (turn .loop .inv .1)
 
 pub range-forbidden-spec : {M : Type 1} → statement M
 range-forbidden-spec =

@@ -34,7 +34,10 @@ unit-of-requires-2 c κs = search needs
 
 loop-holds : tie.Need-loop-holds Inv-loop μ-loop
 unfolding written
-loop-holds c = (omega (arith, units-in-order (c .before .before .before .args .settings) _ _ _ _ (omega arith) (c .before .unit-of .ensures) (c .unit-of2 .ensures)), refl)
+loop-holds c =
+    let begun = c .before in
+    let given = begun .before .before .args in
+    (omega (arith, units-in-order (given .settings) _ _ _ _ (omega arith) (begun .unit-of .ensures) (c .unit-of2 .ensures)), refl)
 
 add-loop : tie.Need-add-loop Inv-loop μ-loop
 add-loop c = search needs
@@ -74,8 +77,8 @@ returns c =
     let turn = c .before in
     let ranged = turn .before in
     let given = ranged .before .before .before .args in
-    range-recorded (given .settings) (given .kind) _ _ _ _ _ _ _ (omega arith) (ranged .before .unit-of .ensures) (ranged .unit-of2 .ensures) (turn .loop .inv .0) (c .loop-test .left)
-    (turn .loop .inv .1)
+    range-recorded (given .settings) (given .kind) _ _ _ _ _ _ _ (omega arith) (ranged .before .unit-of .ensures)
+    (ranged .unit-of2 .ensures) (turn .loop .inv .0) (c .loop-test .left) (turn .loop .inv .1)
 
 pub record-range-spec : {M : Type 1} → statement M
 record-range-spec =

@@ -250,7 +250,8 @@ execute-returns-2 t c =
     let told = further .before .before .before .before .before .before in
     let did = told .before .before .before .before .before .before .before .before .before in
     let start = did .before .before .before .before .before .before .before .before in
-    run-goes-on _ _ _ _ _ _ _ (start .pre .1 .1) (did .next-ccw .ensures) (further .follow-transfer .result) (told .enum-told .given .1) (further .follow-transfer .ensures)
+    run-goes-on _ _ _ _ _ _ _ (start .pre .1 .1) (did .next-ccw .ensures) (further .follow-transfer .result)
+    (told .enum-told .given .1) (further .follow-transfer .ensures)
 
 execute-same-length-7 : (t : ℕ) → execute-lts.Need-same-length-7 (
   next-ccw-reads.Asked,
@@ -303,7 +304,8 @@ execute-returns-3 t c =
     let told = further .before .before .before .before .before in
     let did = told .before .before .before .before .before .before .before .before .before in
     let start = did .before .before .before .before .before .before .before .before in
-    run-goes-on _ _ _ _ _ _ _ (start .pre .1 .1) (did .next-ccw .ensures) (further .execute .result) (told .enum-told .given .1) (further .execute .ensures)
+    run-goes-on _ _ _ _ _ _ _ (start .pre .1 .1) (did .next-ccw .ensures) (further .execute .result)
+    (told .enum-told .given .1) (further .execute .ensures)
 
 follow-transfer-next-ccw-requires : (t : ℕ) → follow-transfer-lts.Need-next-ccw-requires (
   next-ccw-reads.Asked,
@@ -451,7 +453,8 @@ follow-transfer-returns-2 t c =
     let told = further .before .before .before .before in
     let did = told .before .before .before .before .before .before .before .before in
     let start = did .before .before .before .before .before .before .before .before in
-    run-goes-on _ _ _ _ _ _ _ (start .pre .1 .1) (did .next-ccw .ensures) (further .execute .result) (told .enum-told .given .1) (further .execute .ensures)
+    run-goes-on _ _ _ _ _ _ _ (start .pre .1 .1) (did .next-ccw .ensures) (further .execute .result)
+    (told .enum-told .given .1) (further .execute .ensures)
 
 pub +execute+follow-transfer-spec : {M : Type 1} → statement M
 +execute+follow-transfer-spec = close μ-execute μ-follow-transfer (λ t. execute-lts.spec (

@@ -1,5 +1,4 @@
 -- `device_left` is the rule, by the kind. Assumes nothing.
-use mathlib.Core.Path.{refl}
 use borrow.Author.Needs.{needs}
 use Rattle.channel.proofs.transfer.device_left.Statement.{statement}
 use Rattle.channel.proofs.transfer.device_left.Tie as tie

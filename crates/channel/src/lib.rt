@@ -3,7 +3,7 @@
 mod ccw;
 mod moving;
 mod program;
-mod progress;
+pub mod progress;
 mod range;
 mod run;
 mod transfer;
@@ -20,7 +20,7 @@ use machine::channel::ChannelReason;
 use machine::channel::ChannelReply;
 use machine::channel::ChannelRequest;
 use machine::channel::Standing;
-use machine::numbers::lengths_valid;
+use table::numbers::lengths_valid;
 ghost use Prim.Native.Nat.{_+_, _≤_};
 ghost use mathlib.Core.Path.{_≡_};
 ghost use Rattle.machine.specs.Channel.{firstRefusal, requestLines, channel, channelStep, channelOutcome, channelRun, stepsThatFetch, begun};

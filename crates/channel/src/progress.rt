@@ -12,7 +12,7 @@ ghost use Rattle.machine.specs.Channel.{begun, standingAs, transferAllowed, aft
 ghost use Rattle.channel.specs.Requests.{counted as countedBy, afterTransfer};
 
 // The progress of a request that begins: its first CCW, and its two buffers used from their first bytes.
-pub(crate) fn begin(request: ChannelRequest) -> ChannelProgress
+pub fn begin(request: ChannelRequest) -> ChannelProgress
     ensures { λ r. ⌜ r ≡ begun request ⌝ }
 {
     ChannelProgress {

@@ -1,10 +1,10 @@
 // A range of bytes under the channel's key, by unit: each of its units is tested, and its key written, once.
 use machine::AccessKind;
 use machine::Settings;
-use machine::numbers::unit_of;
 use storage_key::permissions;
 use storage_key::permits;
 use storage_key::recorded;
+use table::numbers::unit_of;
 ghost use mathlib.Core.Path.{_≡_};
 ghost use lib.ListN.{length};
 ghost use Rattle.machine.specs.Channel.{rangeForbidden, rangeRecorded};

@@ -35,12 +35,6 @@ prefix-is s at =
     let fourth : at + 6 + 1 ≡ at + 7 = omega arith in
     rw (second, third, fourth) (omega arith)
 
-pub eight : (s : List ℕ) (at : ℕ) → little 8 s at ≡ little 4 s at + little 4 s (at + 4) * 4294967296
-unfolding little
-eight s at =
-    let fourth : at + 1 + 1 + 1 + 1 ≡ at + 4 = omega arith in
-    rw fourth (omega arith)
-
 -- the bytes still to be written
 abbrev pub Rest : (n i value rest : ℕ) → Type 0
 Rest n i value rest = drop i (littleBytes n value) ≡ littleBytes (n - i) rest

@@ -1,6 +1,6 @@
 -- Eight bytes are a word and 2^32 times the next. Assumes nothing.
 use mathlib.Core.Path.{sym}
-use Rattle.host_player.proofs.Numbers.{eight}
+use Rattle.house_record.proofs.LittleBytes.{eight}
 use borrow.Author.Needs.{needs}
 use Rattle.host_player.proofs.state.number_at.Statement.{statement}
 use Rattle.host_player.proofs.state.number_at.Tie as tie

@@ -1,0 +1,3 @@
+-- Laws of the bytes of a progress, and of calls.
+pub mod ProgressBytes
+pub mod Calls

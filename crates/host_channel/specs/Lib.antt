@@ -1,0 +1,2 @@
+-- What the boundary of the channel means.
+pub mod ChannelCalls

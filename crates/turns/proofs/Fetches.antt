@@ -30,10 +30,10 @@ unfolding afterFetch
 fetched-twice k = let kept = key-recorded Fetch k in rw (kept .access-control, kept .fetch-protection, kept .change-bit)
 
 module _ (k l : ℕ) (same : afterFetch k ≡ afterFetch l) where
-  same-control : accessControl k ≡ accessControl l
+  pub same-control : accessControl k ≡ accessControl l
   same-control = sym (key-recorded Fetch k .access-control) ∙ ap accessControl same ∙ key-recorded Fetch l .access-control
 
-  same-fetch-protection : fetchProtection k ≡ fetchProtection l
+  pub same-fetch-protection : fetchProtection k ≡ fetchProtection l
   same-fetch-protection = sym (key-recorded Fetch k .fetch-protection) ∙ ap fetchProtection same ∙ key-recorded Fetch l .fetch-protection
 
   same-forbidden : (kind : AccessKind) (p : Processor) (real : ℕ) → forbidden kind p real k ≡ forbidden kind p real l

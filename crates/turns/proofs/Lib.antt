@@ -1,11 +1,16 @@
--- Condition 3: the law about lists of actions, and that the step obeys it.
-pub mod Named
+-- Condition 3.
+-- The law of parties: actions on a state with parts, parties that take turns, works that come to an end, steps that are sequences of actions
 pub mod Actions
+pub mod Parties
+pub mod Wholes
+pub mod Sequences
+-- A processor's request obeys the laws of actions
+pub mod Named
 pub mod Fetches
 pub mod Parts
 pub mod Dependence
 pub mod Steps
-pub mod Turns
-pub mod TurnFacts
-pub mod Naming
-pub mod Conditions
+-- Bytes under the channel's key do
+pub mod Reaches
+-- A turn is a sequence of such actions
+pub mod ChannelSteps

@@ -37,19 +37,19 @@ use Rattle.turns.proofs.Parts.{recordFound, beforeOf, verdictOf, unitMo
 use Rattle.turns.proofs.Dependence.{byte-same, key-same, record-same, answer-same, buffer-same}
 
 -- what is left of a part that is named or not, by a fetch or not, which completes or not
-left-of : {P : Type 0} (t : P → P) (v w : P) (isNamed isFetched completes : Bool)
+pub left-of : {P : Type 0} (t : P → P) (v w : P) (isNamed isFetched completes : Bool)
     → (isNamed ≡ false → w ≡ v) → (isNamed ≡ true → isFetched ≡ true → w ≡ cond completes (t v) v)
     → Leaves (cond isNamed (cond isFetched (fetch completes) write) untouched) t v w
 left-of t v w false f c kept fetched = kept refl
 left-of t v w true true c kept fetched = fetched refl refl
 left-of t v w true false c kept fetched = tt
 
-same-either : {P : Type 0} (c : Bool) (v : P) → v ≡ cond c v v
+pub same-either : {P : Type 0} (c : Bool) (v : P) → v ≡ cond c v v
 same-either true v = refl
 same-either false v = refl
 
 -- values that are alike to a request that names their part are the same to a fetch
-as-fetched : {P : Type 0} (t : P → P) (v w : P) (isFetched completes : Bool)
+pub as-fetched : {P : Type 0} (t : P → P) (v w : P) (isFetched completes : Bool)
     → Alike (cond isFetched (fetch completes) write) t v w → t v ≡ t w
 as-fetched t v w true c e = e
 as-fetched t v w false c e = ap t e
@@ -218,8 +218,8 @@ module _ (s : Settings) (t : Turn) where
             let (d, f, g) = lengths-stay s (m .storage) (m .keys) p (t .request) (t .buffer) in
             rw (a, b, d, f) (sym w)
 
-pub laws : (s : Settings) → Laws State Turn Given Part Value (next s) (given s) (mode s) read touch
-laws s =
+pub request-laws : (s : Settings) → Laws State Turn (λ t. Given) Part Value (next s) (given s) (mode s) read touch
+request-laws s =
     record {
       whole = whole;
       touch-twice = touch-twice;

@@ -1,8 +1,8 @@
--- The units that a request names. An access that completes or ends with 4 names every unit in its range: the unit of each byte's absolute
+-- The units that a processor's request names. An access that completes or ends with 4 names every unit in its range: the unit of each byte's absolute
 -- address. A key instruction that completes names its one or two units. Every other request names none.
 -- An access completes or ends with 4, and a key instruction completes, exactly when the lines before protection let it pass.
 use Prim.Native.Nat.{ℕ, _+_}
-use mathlib.Core.Bool.{Bool, true, false}
+use mathlib.Core.Bool.{Bool, true, false, cond}
 use mathlib.Core.Option.{Option, none, some}
 use lib.ListN.{length}
 use lib.Dec.{eqb}
@@ -52,3 +52,12 @@ isFetch (Access Fetch address count) = true
 isFetch (Access Store address count) = false
 isFetch (Key i) = false
 isFetch (Prefix i) = false
+
+-- how a unit is named: not at all, as a fetch, or otherwise
+pub data Naming : Type 0 where
+  unnamed : Naming
+  fetching : Naming
+  otherwise : Naming
+
+abbrev pub naming : Settings → State → Turn → ℕ → Naming
+naming s m t u = cond (named s u m t) (cond (isFetch (t .request)) fetching otherwise) unnamed

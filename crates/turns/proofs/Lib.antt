@@ -14,3 +14,11 @@ pub mod Steps
 pub mod Reaches
 -- A turn is a sequence of such actions
 pub mod ChannelSteps
+pub mod NamedModes
+pub mod Endings
+-- The claim
+pub mod ThreeLists
+-- When a request of a processor names units at all
+pub mod Naming
+-- The condition
+pub mod Conditions

@@ -39,26 +39,30 @@ module _ {S W I : Type 0} (r : Parties S W I) where
   at-end p m i e now zero = now
   at-end p m i e now (suc k) = rw (← own-pass r m i k, e) (at-end p m i e now k)
 
-  -- how many turns of party j an order has; and one that has k turns of i first
+  -- how many turns of party j an order has
   abbrev pub turnsOf : I → List I → ℕ
   turnsOf j [] = 0
   turnsOf j (i ∷ o) = ifSame (r .same i j) (suc (turnsOf j o)) (turnsOf j o)
 
-  pub more-turns : (j i : I) (k : ℕ) (o : List I) → turnsOf j (replicate k i ++ o) ≡ ifSame (r .same i j) (k + turnsOf j o) (turnsOf j o)
-  more-turns j i k o = go k
+  pub turns-append : (j : I) (o p : List I) → turnsOf j (o ++ p) ≡ turnsOf j o + turnsOf j p
+  turns-append j [] p = omega arith
+  turns-append j (i ∷ o) p = rw (turns-append j o p) (by (r .same i j) (turnsOf j o) (turnsOf j p))
     where
-      one : {A : Type 0} (c : Dec A) (k : ℕ) → ifSame c (suc (ifSame c (k + turnsOf j o) (turnsOf j o))) (ifSame c (k + turnsOf j o) (turnsOf j o))
-          ≡ ifSame c (suc k + turnsOf j o) (turnsOf j o)
-      one (yes e) k = omega arith
-      one (no n) k = refl
+      by : {A : Type 0} (c : Dec A) (k l : ℕ) → ifSame c (suc (k + l)) (k + l) ≡ ifSame c (suc k) k + l
+      by (yes e) k l = omega arith
+      by (no n) k l = refl
 
-      none : {A : Type 0} (c : Dec A) → turnsOf j o ≡ ifSame c (0 + turnsOf j o) (turnsOf j o)
-      none (yes e) = omega arith
-      none (no n) = refl
-
-      go : (k : ℕ) → turnsOf j (replicate k i ++ o) ≡ ifSame (r .same i j) (k + turnsOf j o) (turnsOf j o)
-      go zero = none (r .same i j)
-      go (suc k) = rw (go k) (one (r .same i j) k)
+  pub turns-replicate : (j i : I) (k : ℕ) → turnsOf j (replicate k i) ≡ ifSame (r .same i j) k 0
+  turns-replicate j i zero = by (r .same i j)
+    where
+      by : {A : Type 0} (c : Dec A) → _≡_ {A = ℕ} 0 (ifSame c 0 0)
+      by (yes e) = refl
+      by (no n) = refl
+  turns-replicate j i (suc k) = rw (turns-replicate j i k) (by (r .same i j))
+    where
+      by : {A : Type 0} (c : Dec A) → ifSame c (suc (ifSame c k 0)) (ifSame c k 0) ≡ ifSame c (suc k) 0
+      by (yes e) = refl
+      by (no n) = refl
 
 -- what is asked of `left`, how many turns a work takes at the most, and of `atEnd`, whether a work is at its end
 pub record Ending {S W I : Type 0} (r : Parties S W I) (atEnd : W → Bool) (left : W → ℕ) : Type 0 where

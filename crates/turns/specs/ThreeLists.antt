@@ -154,8 +154,7 @@ turnsAtMost [] = 0
 turnsAtMost (t ∷ ts) = t .request .grant + 1 + turnsAtMost ts
 
 abbrev pub oneAfterAnother : List Turn → List Turn → List ChannelTurn → List Party
-oneAfterAnother xs ys zs =
-    replicate (length xs) processor0 ++ replicate (length ys) processor1 ++ replicate (turnsAtMost zs) channel ++ []
+oneAfterAnother xs ys zs = replicate (length xs) processor0 ++ replicate (length ys) processor1 ++ replicate (turnsAtMost zs) channel
 
 -- the same claim against that order, which is whole: every whole order ends as it does
 abbrev pub OneAfterAnother : Type 0

@@ -18,6 +18,8 @@ pub mod NamedModes
 pub mod Endings
 -- The claim
 pub mod ThreeLists
+pub mod TwoLists
+pub mod TurnFacts
 -- When a request of a processor names units at all
 pub mod Naming
 -- The condition

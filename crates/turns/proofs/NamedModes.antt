@@ -26,6 +26,9 @@ use Rattle.turns.proofs.ChannelSteps.{stepsOf, turn-names, workMode}
 pub unnamed-not-otherwise : unnamed ≢ otherwise
 unnamed-not-otherwise e = let z : _≡_ {A = ℕ} 0 1 = cc in omega arith
 
+pub fetching-not-otherwise : fetching ≢ otherwise
+fetching-not-otherwise e = let z : _≡_ {A = ℕ} 0 1 = cc in omega arith
+
 -- a unit that is named or not, by a fetch or not, which completes or not
 unnamed-untouched : (isNamed isFetched completes : Bool) → cond isNamed (cond isFetched fetching otherwise) unnamed ≡ unnamed
     → cond isNamed (cond isFetched (fetch completes) write) untouched ≡ untouched

@@ -1,4 +1,5 @@
--- Two lists, the processors': the orders of turns, the run in such an order, and the claim that the order does not matter.
+-- Two lists, those of the processors: the orders of turns, the run in such an order, and the claim that the order does not matter. It follows from
+-- the claim over three lists, the channel's being empty.
 use Prim.Native.Nat.{ℕ, _≤_}
 use mathlib.Core.Path.{_≡_}
 use mathlib.Core.Bool.{true, false}

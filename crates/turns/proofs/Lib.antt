@@ -20,7 +20,9 @@ pub mod Endings
 pub mod ThreeLists
 pub mod TwoLists
 pub mod TurnFacts
--- When a request of a processor names units at all
+pub mod ChannelFacts
+-- When a request of a processor names units at all; what a step of the channel names, by what it answers
 pub mod Naming
+pub mod ChannelNaming
 -- The condition
 pub mod Conditions

@@ -113,7 +113,7 @@ reachMode s m r (processor i) = untouched
 reachMode s m r lengths = fetch false
 
 -- tests that agree on the numbers below n
-any-same : (f g : ℕ → Bool) (n : ℕ) → ((i : ℕ) → i < n → f i ≡ g i) → anyBelow f n ≡ anyBelow g n
+pub any-same : (f g : ℕ → Bool) (n : ℕ) → ((i : ℕ) → i < n → f i ≡ g i) → anyBelow f n ≡ anyBelow g n
 unfolding anyBelow
 any-same f g zero e = refl
 any-same f g (suc n) e = rw (any-same f g n (λ i h. e i (omega arith)), e n (omega arith))
@@ -129,7 +129,7 @@ number-same (suc n) xs ys a e =
     after : (i : ℕ) → a + 1 + i ≡ a + suc i
     after i = omega arith
 
-ccw-same : (xs ys : List ℕ) (a : ℕ) → ((i : ℕ) → i < 8 → getD xs (a + i) 0 ≡ getD ys (a + i) 0) → ccwAt xs a ≡ ccwAt ys a
+pub ccw-same : (xs ys : List ℕ) (a : ℕ) → ((i : ℕ) → i < 8 → getD xs (a + i) 0 ≡ getD ys (a + i) 0) → ccwAt xs a ≡ ccwAt ys a
 unfolding ccwAt
 ccw-same xs ys a e =
     rw (number-same 1 xs ys a (λ i h. e i (omega arith)), part 3 1 (omega arith), part 1 4 (omega arith), part 2 6 (omega arith))

@@ -21,6 +21,8 @@ pub mod ThreeLists
 pub mod TwoLists
 pub mod TurnFacts
 pub mod ChannelFacts
+-- The turns of one request of the channel are its run
+pub mod ChannelRuns
 -- When a request of a processor names units at all; what a step of the channel names, by what it answers
 pub mod Naming
 pub mod ChannelNaming

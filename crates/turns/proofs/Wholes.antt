@@ -39,6 +39,10 @@ module _ {S W I : Type 0} (r : Parties S W I) where
   at-end p m i e now zero = now
   at-end p m i e now (suc k) = rw (← own-pass r m i k, e) (at-end p m i e now k)
 
+  pub run-alone : (m : Joint S W I) (i : I) (k : ℕ) → run r m (replicate k i) ≡ alone r m i k
+  run-alone m i zero = refl
+  run-alone m i (suc k) = run-alone (turn r m i) i k ∙ own-pass r m i k
+
   -- how many turns of party j an order has
   abbrev pub turnsOf : I → List I → ℕ
   turnsOf j [] = 0

@@ -6,7 +6,7 @@ use Prim.Native.Nat.{ℕ, _+_, _<_}
 use mathlib.Core.Path.{_≡_, refl, sym, ap, _∙_}
 use mathlib.Core.Bool.{Bool, true, false, cond}
 use mathlib.Core.Logic.{_≢_, inl, inr}
-use mathlib.Core.List.{List, [], _∷_, _++_}
+use mathlib.Core.List.{List, [], _∷_}
 use native.Mathlib.Decide.{ℕ-discrete}
 use native.Mathlib.Omega.{arith}
 use lib.ListN.{length, getD, set, replicate, length-set}
@@ -18,24 +18,28 @@ use Rattle.machine.specs.declared.Request.the-variants.{Access}
 use Rattle.machine.specs.declared.AccessKind.the-variants.{Fetch, Store}
 use Rattle.machine.specs.declared.channel.Ccw.{Ccw}
 use Rattle.machine.specs.declared.channel.ChannelOperation.the-variants.{Data}
-use Rattle.machine.specs.declared.channel.ChannelRequest.{ChannelRequest}
+use Rattle.machine.specs.declared.channel.Chaining.the-variants.{Command, Ended}
+use Rattle.machine.specs.declared.channel.Standing.the-variants.{UnderWay}
+use Rattle.machine.specs.declared.channel.ChannelProgress.{ChannelProgress}
 use Rattle.machine.specs.Lists.{written, anyBelow}
-use Rattle.machine.specs.Key.{afterFetch, afterStore}
+use Rattle.machine.specs.Key.{afterStore}
 use Rattle.machine.specs.Answers.{line, firstOf, firstByte, firstLine}
 use Rattle.machine.specs.Prefixing.{prefixed}
 use Rattle.machine.specs.Protection.{permitted, lowProtected}
 use Rattle.machine.specs.Table.{addressing, protection, beforeProtection, verdict}
 use Rattle.machine.specs.Step.{storageLeft, bufferLeft, keysRecorded, completed, performed, step}
 use Rattle.machine.specs.Pair.{served, pairStep}
-use Rattle.machine.specs.Channel.{Channel, bigEndian, ccwAt, operationOf, firstRefusal, beforeFetching, rangeForbidden, rangeRecorded, bytesMoved, beforeTransfer, withCcwFetched}
+use Rattle.machine.specs.Channel.{Channel, bigEndian, ccwAt, operationOf, firstRefusal, beforeFetching, rangeForbidden, rangeRecorded, bytesMoved}
+use Rattle.machine.specs.Channel.{beforeTransfer, withCcwFetched}
 use Rattle.machine.specs.Channel.{carriedOut, obeyed, nextCcw, channelStep, begun}
-use Rattle.machine.specs.Turns.{State, Turn, Given, next}
+use Rattle.machine.specs.Turns.{State, Turn}
 use Rattle.machine.proofs.Verdicts.{not-both}
 use Rattle.machine.proofs.Written.{length-written, written-there}
 use Rattle.turns.specs.Units.{Naming, unnamed, fetching, otherwise, names, named}
 use Rattle.turns.specs.ChannelUnits.{inRange, together, nextCcwNames}
-use Rattle.turns.specs.Parties.{Joint, run, alone, turn}
-use Rattle.turns.specs.ThreeLists.{ChannelTurn, Work, requests, between, underWay, atEnd, found, goesOn, workThen, turnNames, Party, processor0, processor1, channel}
+use Rattle.turns.specs.Parties.{Joint, run, turn}
+use Rattle.turns.specs.ThreeLists.{ChannelTurn, ChannelGiven, Work, requests, between, underWay, atEnd, found, goesOn, workThen, turnNames, Party}
+use Rattle.turns.specs.ThreeLists.{processor0, processor1, channel}
 use Rattle.turns.specs.ThreeLists.{parties, start, namedAt, Apart, Whole}
 use Rattle.turns.proofs.Wholes.{own-work, each-step, at-end, rested}
 use Rattle.turns.proofs.Reaches.{ccw-same}
@@ -180,7 +184,8 @@ module _ (storage : List ℕ) (h : length storage ≡ 65536) (holds : ccwAt stor
     pub channel-not-apart : ¬ Apart settings sharedStart
     channel-not-apart apart =
         channel-order-matters (ap (λ n. n .shared .storage)
-        (any-order settings (memory storage) (store 0 12288 a ∷ []) [] (readOne c ∷ []) (inl refl, tt) tt apart channelLast channelFirst last-whole first-whole))
+        (any-order settings (memory storage) (store 0 12288 a ∷ []) [] (readOne c ∷ []) (inl refl, tt) tt apart channelLast channelFirst
+        last-whole first-whole))
 
 -- there is such a storage: the CCW's bytes are put into any
 pub storage-holds : (storage : List ℕ) → length storage ≡ 65536
@@ -245,3 +250,37 @@ module _ (s : Settings) (m : State) (real real' count count' : ℕ) (buffer buff
       → run (parties s) fetchesStart o ≡ run (parties s) fetchesStart p
   fetches-agree =
       any-order s m (fetch 0 real count buffer ∷ []) (fetch 1 real' count' buffer' ∷ []) (t ∷ []) (inl refl, tt) (inl refl, tt) fetches-apart
+
+-- A turn of the channel is one CCW: a program gives the byte at 12288 to the device twice, and a processor may store there between. From any state
+-- with a storage of 65,536 bytes that holds the two CCWs, and 32 keys: after one turn the first byte is given and the request is under way
+abbrev giving : ℕ → Ccw
+giving flags = record { command = 1; address = 12288; flags = flags; count = 1 }
+
+abbrev giveTwice : ChannelTurn
+giveTwice = record { request = record { key = 0; first = 8192; grant = 2 }; fromDevice = []; room = 0 ∷ 0 ∷ [] }
+
+abbrev oneGiven : ChannelProgress
+oneGiven = record { state = record { ccw = 8200; chaining = Command; taken = 0; given = 1 }; fetched = 1; standing = UnderWay }
+
+abbrev bothGiven : ℕ → ℕ → ChannelGiven
+bothGiven x y =
+    record {
+      answer = record { number = 0; place = 0; word = 0; rule = 0 };
+      count = 2;
+      state = record { ccw = 8208; chaining = Ended; taken = 0; given = 2 };
+      fromDevice = [];
+      room = x ∷ y ∷ [];
+    }
+
+module _ (m : State) (h : length (m .storage) ≡ 65536) (l : length (m .keys) ≡ 32) where
+  pub first-given : ccwAt (m .storage) 8192 ≡ giving 64
+      → workThen settings m (between (giveTwice ∷ []) []) ≡ underWay giveTwice (getD (m .storage) 12288 0 ∷ 0 ∷ []) oneGiven [] []
+  unfolding written permitted anyBelow channelStep nextCcw beforeFetching firstRefusal rangeForbidden obeyed operationOf beforeTransfer
+      withCcwFetched carriedOut bytesMoved
+  first-given one = rw (h, l, one)
+
+  pub second-given : (x : ℕ) → ccwAt (m .storage) 8200 ≡ giving 0
+      → workThen settings m (underWay giveTwice (x ∷ 0 ∷ []) oneGiven [] []) ≡ between [] (bothGiven x (getD (m .storage) 12288 0) ∷ [])
+  unfolding written permitted anyBelow channelStep nextCcw beforeFetching firstRefusal rangeForbidden obeyed operationOf beforeTransfer
+      withCcwFetched carriedOut bytesMoved
+  second-given x two = rw (h, l, two)

@@ -1,10 +1,10 @@
 -- What a step of the channel names, by what it answers and whether it fetched a CCW: each row of the table in document 02's reading (point 29), as
 -- a law. The steps are told apart by their lines (by-lines). Assumes nothing.
-use Prim.Native.Nat.{ℕ, _+_, _%_, _/_, _<_, _≤_}
-use mathlib.Core.Path.{_≡_, refl, sym, ap, _∙_}
+use Prim.Native.Nat.{ℕ, _+_, _%_, _/_, _<_}
+use mathlib.Core.Path.{_≡_, refl, ap, _∙_}
 use mathlib.Core.Bool.{Bool, true, false, cond}
 use mathlib.Core.Logic.{_≢_, _⊎_, inl, inr, ⊎-elim}
-use mathlib.Core.List.{List, [], _∷_, _++_}
+use mathlib.Core.List.{List, [], _∷_}
 use mathlib.Core.Option.{Option, none, some}
 use native.Mathlib.Omega.{arith}
 use lib.ListN.{length}
@@ -18,7 +18,6 @@ use Rattle.machine.specs.declared.channel.ChannelOperation.the-variants.{Transf
 use Rattle.machine.specs.declared.channel.ChannelReason.{ChannelReason}
 use Rattle.machine.specs.declared.channel.ChannelReason.the-variants.{Program, Protection, Device}
 use Rattle.machine.specs.declared.channel.ChannelAnswer.the-variants.{Completed, Refused}
-use Rattle.machine.specs.declared.channel.Standing.{Standing}
 use Rattle.machine.specs.declared.channel.Standing.the-variants.{UnderWay, Answered}
 use Rattle.machine.specs.Channel.{Channel, channelNumber, ccwAt, operationOf, refused, firstRefusal, beforeFetching, fetchingForbidden, beforeTransfer}
 use Rattle.machine.specs.Channel.{dataForbidden, withCcwFetched, carriedOut, unlessRefused, unlessForbidden, obeyed, nextCcw}
@@ -126,8 +125,19 @@ module _ (s : Settings) (q : ChannelRequest) (fromDevice : List ℕ) (c : Channe
     above-fetching : (r : ChannelReason) → beforeFetching s q c ≡ some r → (channelNumber r ≢ 72) × (channelNumber r ≢ 73)
     unfolding beforeFetching
     above-fetching r e =
-        reason-given (λ r. (channelNumber r ≢ 72) × (channelNumber r ≢ 73)) _
-        ((omega arith, omega arith), ((omega arith, omega arith), ((omega arith, omega arith), ((omega arith, omega arith), ((omega arith, omega arith), tt))))) r e
+        reason-given (λ r. (channelNumber r ≢ 72) × (channelNumber r ≢ 73)) _ (
+          (omega arith, omega arith),
+          (
+            (omega arith, omega arith),
+            (
+              (omega arith, omega arith),
+              (
+                (omega arith, omega arith),
+                ((omega arith, omega arith), tt),
+              ),
+            ),
+          ),
+        ) r e
 
     above-transfer : (r : ChannelReason) → beforeTransfer (length fromDevice) fetchedCcw operation ≡ some r → (r ≡ Program) ⊎ (r ≡ Device)
     unfolding beforeTransfer

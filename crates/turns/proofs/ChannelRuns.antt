@@ -3,8 +3,8 @@
 -- Assumes nothing.
 use Prim.Native.Nat.{ℕ, zero, suc, _+_}
 use mathlib.Core.Path.{_≡_, refl, subst, _∙_}
-use mathlib.Core.Bool.{true, false}
-use mathlib.Core.List.{List, [], _∷_}
+use mathlib.Core.Bool.{true}
+use mathlib.Core.List.{[], _∷_}
 use mathlib.Core.Option.{some}
 use native.Mathlib.Numerals.{add-one}
 use native.Mathlib.Omega.{arith}
@@ -12,11 +12,12 @@ use lib.ListN.{replicate}
 use Rattle.machine.specs.declared.Settings.{Settings}
 use Rattle.machine.specs.declared.channel.Standing.{Standing}
 use Rattle.machine.specs.declared.channel.Standing.the-variants.{UnderWay, Answered}
-use Rattle.machine.specs.Channel.{Channel, channelValues, channelStep, begun, steps, outcomeIn, ChannelOutcome, channelRun}
+use Rattle.machine.specs.Channel.{Channel, channelValues, channelStep, begun, steps, ChannelOutcome, channelRun}
 use Rattle.machine.specs.Turns.{State}
 use Rattle.machine.proofs.Verdicts.{not-both}
 use Rattle.turns.specs.Parties.{Joint, turn, alone}
-use Rattle.turns.specs.ThreeLists.{ChannelTurn, ChannelGiven, Work, between, atEnd, found, left, goesOn, stateThen, workThen, Party, channel, parties, start}
+use Rattle.turns.specs.ThreeLists.{ChannelTurn, ChannelGiven, Work, between, atEnd, found, left, goesOn, stateThen, workThen, Party, channel}
+use Rattle.turns.specs.ThreeLists.{parties, start}
 use Rattle.turns.proofs.Parties.{own-pass}
 use Rattle.turns.proofs.Wholes.{own-work, run-alone, turns-replicate, enough-turns}
 use Rattle.turns.proofs.Endings.{ending}

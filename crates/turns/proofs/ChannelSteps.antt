@@ -20,7 +20,7 @@ use Rattle.machine.specs.declared.channel.ChannelAnswer.the-variants.{Refused}
 use Rattle.machine.specs.declared.channel.Standing.{Standing}
 use Rattle.machine.specs.declared.channel.Standing.the-variants.{UnderWay, Answered}
 use Rattle.machine.specs.Channel.{Channel, ccwAt, operationOf, standingAs, refused, firstRefusal, requestLines, addressLines, beforeFetching}
-use Rattle.machine.specs.Channel.{programCheck, dataOutside, deviceShort, beforeTransfer, rangeForbidden, withCcwFetched, transferred, afterData}
+use Rattle.machine.specs.Channel.{programCheck, dataOutside, deviceShort, beforeTransfer, withCcwFetched, transferred, afterData}
 use Rattle.machine.specs.Channel.{carriedOut, dataForbidden, unlessRefused, unlessForbidden, obeyed, nextCcw, stepBy, channelStep, begun}
 use Rattle.machine.specs.Turns.{State, Turn, Given, next, given}
 use Rattle.turns.specs.Units.{Naming, unnamed, fetching, otherwise, naming}
@@ -30,7 +30,8 @@ use Rattle.turns.proofs.Actions.{Mode, untouched, fetch, write, Leaves,
 use Rattle.turns.proofs.Sequences.{Sequence, end, act, through, result, modes, sequence-laws, laws-of, laws-as}
 use Rattle.turns.proofs.Parts.{Part, byte, key, processor, lengths, Value, read, whole, touch, touch-twice, mode}
 use Rattle.turns.proofs.Steps.{request-laws}
-use Rattle.turns.proofs.Reaches.{Reach, readCcw, give, take, Got, barred, reachNextBy, reachGivesBy, reachNext, reachGives, fetches, reaches, reachMode, reach-laws}
+use Rattle.turns.proofs.Reaches.{Reach, readCcw, give, take, Got, barred, reachNextBy, reachGivesBy, reachNext, reachGives, fetches, reaches}
+use Rattle.turns.proofs.Reaches.{reachMode, reach-laws}
 
 -- The actions: a processor's request; a look at the lengths; bytes under the channel's key.
 pub data Action : Type 0 where
@@ -289,7 +290,8 @@ module _ (finish : List ℕ → ChannelProgress → Work) where
                 reached m (readCcw (q .key) (g .state .ccw)) (fetched-ccw (length (m .storage)) g)
                 (λ b. unlessForbidden b (found m room g) then) (λ b u. cond b unnamed (thenNames u)) read-ccw
 
-        pub channel-does : (st : Standing) → Does m (channel-steps st g) (stepBy st s q fromDevice (found m room g)) (stepNamesBy st s q fromDevice (found m room g))
+        pub channel-does : (st : Standing)
+            → Does m (channel-steps st g) (stepBy st s q fromDevice (found m room g)) (stepNamesBy st s q fromDevice (found m room g))
         channel-does UnderWay = next-ccw
         channel-does (Answered answer) = nothing (found m room g)
 

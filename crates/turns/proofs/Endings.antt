@@ -4,11 +4,10 @@
 use Prim.Native.Nat.{ℕ, _+_, _-_, _≤_, _<_, suc}
 use mathlib.Core.Path.{_≡_, refl}
 use mathlib.Core.Bool.{Bool, true, false, cond}
-use mathlib.Core.List.{List, [], _∷_, _++_}
+use mathlib.Core.List.{List, [], _∷_}
 use mathlib.Core.Option.{Option, none, some}
 use native.Mathlib.Omega.{arith}
 use lib.ListN.{length}
-use lib.Dec.{leb}
 use borrow.Author.Tests.{leb-false}
 use Rattle.machine.specs.declared.Settings.{Settings}
 use Rattle.machine.specs.declared.AccessKind.the-variants.{Fetch, Store}
@@ -20,12 +19,13 @@ use Rattle.machine.specs.declared.channel.ChannelReason.{ChannelReason}
 use Rattle.machine.specs.declared.channel.ChannelAnswer.the-variants.{Completed}
 use Rattle.machine.specs.declared.channel.Standing.{Standing}
 use Rattle.machine.specs.declared.channel.Standing.the-variants.{UnderWay, Answered}
-use Rattle.machine.specs.Channel.{Channel, ccwAt, operationOf, firstRefusal, requestLines, addressLines, beforeFetching, fetchingForbidden}
+use Rattle.machine.specs.Channel.{Channel, ccwAt, operationOf, firstRefusal, beforeFetching, fetchingForbidden}
 use Rattle.machine.specs.Channel.{beforeTransfer, dataForbidden, withCcwFetched, carriedOut, unlessRefused, unlessForbidden, obeyed, nextCcw, stepBy}
 use Rattle.machine.specs.Channel.{channelStep, begun}
 use Rattle.machine.specs.Turns.{State}
 use Rattle.machine.proofs.Verdicts.{not-both}
-use Rattle.turns.specs.ThreeLists.{ChannelTurn, ChannelGiven, Work, requests, between, underWay, atEnd, found, stepped, goesOn, workThen, parties, turnsAtMost}
+use Rattle.turns.specs.ThreeLists.{ChannelTurn, ChannelGiven, Work, requests, between, underWay, atEnd, found, stepped, goesOn, workThen, parties}
+use Rattle.turns.specs.ThreeLists.{turnsAtMost}
 use Rattle.turns.proofs.Wholes.{Ending}
 
 -- the turns left, at the most; of a request under way by its grant

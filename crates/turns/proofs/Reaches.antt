@@ -2,9 +2,9 @@
 -- it. It treats a byte and a key as it treats their unit, no record, and the lengths it looks at and leaves. It obeys the laws of actions: what
 -- it leaves of each part follows from the laws of runs of writes, and in two states that are alike to it the same is forbidden.
 -- Assumes nothing.
-use Prim.Native.Nat.{ℕ, zero, suc, _+_, _*_, _^_, _<_, _≤_}
+use Prim.Native.Nat.{ℕ, zero, suc, _+_, _<_, _≤_}
 use mathlib.Core.Path.{_≡_, refl, sym, ap, _∙_}
-use mathlib.Core.Bool.{Bool, true, false, cond, not, _&&_, and-false}
+use mathlib.Core.Bool.{Bool, true, false, cond, not, _&&_}
 use mathlib.Core.Logic.{_≢_}
 use mathlib.Core.List.{List}
 use mathlib.Core.Option.{Option, none, some}
@@ -26,7 +26,7 @@ use Rattle.machine.specs.Turns.{State}
 use Rattle.machine.proofs.Verdicts.{not-both, any-at, any-none, any-found}
 use Rattle.machine.proofs.Written.{length-written, written-elsewhere, written-there, written-same, written-agree, marked-agree}
 use Rattle.turns.specs.ChannelUnits.{inRange}
-use Rattle.turns.proofs.Actions.{Mode, untouched, fetch, write, Alike, Leaves, AlikeTo, Laws}
+use Rattle.turns.proofs.Actions.{Mode, untouched, fetch, write, Leaves, AlikeTo, Laws}
 use Rattle.turns.proofs.Fetches.{same-control, same-fetch-protection}
 use Rattle.turns.proofs.Parts.{Part, byte, key, processor, lengths, Value, read, whole, touch, touch-twice}
 use Rattle.turns.proofs.Steps.{left-of, same-either, as-fetched}
@@ -211,7 +211,8 @@ module _ (s : Settings) where
           List·getD-eq-default (keysAfter s keys r) 0 (rw (keys-length r keys) out) ∙ sym (List·getD-eq-default keys 0 out)
 
   module _ (r : Reach) (m : State) where
-    byte-left : (b : Bool) (a : ℕ) → Leaves (cond (reaches s r (unitOf s a)) (cond (fetches r) (fetch (not b && ltb (unitOf s a) (length (m .keys)))) write) untouched)
+    byte-left : (b : Bool) (a : ℕ)
+        → Leaves (cond (reaches s r (unitOf s a)) (cond (fetches r) (fetch (not b && ltb (unitOf s a) (length (m .keys)))) write) untouched)
         (λ v. v) (getD (m .storage) a 0) (getD (reachNextBy b s m r .storage) a 0)
     byte-left b a = left-of _ _ _ (reaches s r (unitOf s a)) (fetches r) _ (kept b) (λ n f. fetched b f)
       where

@@ -3,7 +3,7 @@
 -- Assumes nothing.
 use Prim.Native.Nat.{ℕ, _+_, _≤_}
 use mathlib.Core.Path.{_≡_, refl, _∙_}
-use mathlib.Core.Bool.{true, false, cond, _&&_, and-false}
+use mathlib.Core.Bool.{true, false, _&&_, and-false}
 use mathlib.Core.Logic.{_≢_, _⊎_, ⊎-elim, inl, inr}
 use mathlib.Core.List.{List, [], _∷_, _++_}
 use native.Mathlib.Decide.{ℕ-discrete}
@@ -19,8 +19,9 @@ use Rattle.machine.specs.Numbers.{unitOf}
 use Rattle.machine.specs.Channel.{begun}
 use Rattle.machine.specs.Turns.{State, Turn}
 use Rattle.machine.proofs.Verdicts.{tested}
-use Rattle.turns.specs.Parties.{Joint, alone, run}
-use Rattle.turns.specs.ThreeLists.{ChannelTurn, ChannelGiven, Work, requests, between, underWay, stepped, goesOn, workThen, Party, processor0, processor1, channel}
+use Rattle.turns.specs.Parties.{Joint, alone}
+use Rattle.turns.specs.ThreeLists.{ChannelTurn, ChannelGiven, Work, requests, between, underWay, stepped, goesOn, workThen, Party, processor0}
+use Rattle.turns.specs.ThreeLists.{processor1, channel}
 use Rattle.turns.specs.ThreeLists.{parties, start, Carry, Apart, Whole, AnyOrder, turnsAtMost, oneAfterAnother, OneAfterAnother}
 use Rattle.turns.proofs.Actions.{untouched}
 use Rattle.turns.proofs.Parties as Law

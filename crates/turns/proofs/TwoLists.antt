@@ -1,7 +1,7 @@
 -- The claim over the processors' two lists follows from that over three, the channel's being empty: an order of turns of the two lists is an order of
 -- turns of the parties, and what holds of each request of a list that runs alone holds of each turn of the party.
 -- Assumes nothing.
-use Prim.Native.Nat.{ℕ, zero, suc}
+use Prim.Native.Nat.{ℕ}
 use mathlib.Core.Path.{_≡_, refl, sym, ap, _∙_}
 use mathlib.Core.Bool.{Bool, true, false, cond}
 use mathlib.Core.Logic.{_≢_, ⊎-elim, inl, inr}
@@ -12,9 +12,11 @@ use Rattle.machine.proofs.Verdicts.{not-both}
 use Rattle.turns.specs.Units.{unnamed, fetching, otherwise, named, isFetch}
 use Rattle.turns.specs.Parties.{Joint, turn, alone}
 use Rattle.turns.specs.Parties as Turns
-use Rattle.turns.specs.ThreeLists.{Work, requests, between, underWay, turnNames, Party, processor0, processor1, channel, parties, start, Carry, Whole}
+use Rattle.turns.specs.ThreeLists.{Work, requests, between, underWay, turnNames, Party, processor0, processor1, channel, parties, start, Carry}
+use Rattle.turns.specs.ThreeLists.{Whole}
 use Rattle.turns.specs.ThreeLists as Three
-use Rattle.turns.specs.TwoLists.{Order, done, first, second, firstThenSecond, End, run, Every, Carries, Unnamed, FetchesOnly, Apart, AnyOrder, AsFirstThenSecond}
+use Rattle.turns.specs.TwoLists.{Order, done, first, second, firstThenSecond, End, run, Every, Carries, Unnamed, FetchesOnly, Apart, AnyOrder}
+use Rattle.turns.specs.TwoLists.{AsFirstThenSecond}
 use Rattle.turns.proofs.Wholes.{own-work, each-step, at-end, at-rest}
 use Rattle.turns.proofs.NamedModes.{unnamed-not-otherwise, fetching-not-otherwise}
 use Rattle.turns.proofs.ThreeLists as Claim

@@ -1,7 +1,7 @@
 -- Parties whose work comes to an end. Each turn takes something from what is left of the work, and a turn of a party at its end does nothing. So
 -- all orders in which every party's work comes to its end are alike, and an order that has enough turns of each party is one. Assumes nothing.
 use Prim.Native.Nat.{ℕ, zero, suc, _+_, _-_, _≤_}
-use mathlib.Core.Path.{_≡_, refl, sym, ap, _∙_}
+use mathlib.Core.Path.{_≡_, refl, ap, _∙_}
 use mathlib.Core.Bool.{Bool, true}
 use mathlib.Core.List.{List, [], _∷_, _++_}
 use native.Mathlib.Omega.{arith}

@@ -29,7 +29,8 @@
 //! ```
 
 use crate::{
-    AccessKind, Answer, Completed, KeyInstruction, PlayStatus, Played, Player, PrefixInstruction,
+    AccessKind, Answer, Chaining, ChannelProgress, ChannelRecord, ChannelRefusal, ChannelRequest,
+    ChannelStatus, Completed, KeyInstruction, PlayStatus, Played, Player, PrefixInstruction,
     Processor, Reason, Refusal, Request, Rule, Settings,
 };
 
@@ -108,6 +109,50 @@ unsafe extern "C" {
         output: *mut u8,
         output_length: usize,
     ) -> u32;
+
+    /// The C function of the static library that runs a whole request of a channel.
+    ///
+    /// # Safety
+    ///
+    /// As for every [`RawChannel`].
+    pub fn storage_unit_channel(
+        settings: u32,
+        storage: *mut u8,
+        storage_length: usize,
+        keys: *mut u8,
+        keys_length: usize,
+        key: u32,
+        first: u32,
+        grant: u32,
+        from: *const u8,
+        from_length: usize,
+        room: *mut u8,
+        room_length: usize,
+        progress: *mut u8,
+        progress_length: usize,
+    ) -> u64;
+
+    /// The C function of the static library that does one step of a channel's request: one CCW.
+    ///
+    /// # Safety
+    ///
+    /// As for every [`RawChannel`].
+    pub fn storage_unit_channel_step(
+        settings: u32,
+        storage: *mut u8,
+        storage_length: usize,
+        keys: *mut u8,
+        keys_length: usize,
+        key: u32,
+        first: u32,
+        grant: u32,
+        from: *const u8,
+        from_length: usize,
+        room: *mut u8,
+        room_length: usize,
+        progress: *mut u8,
+        progress_length: usize,
+    ) -> u64;
 
     /// The C function of the static library that gives its version:
     /// 10,000 x major + 100 x minor + patch.
@@ -197,6 +242,31 @@ pub type RawPlay = unsafe extern "C" fn(
     output_length: usize,
 ) -> u32;
 
+/// The type of the C functions of a channel, for a whole request and for one step: settings,
+/// storage and keys; key, address of the first CCW and grant; the bytes from the device, the room
+/// for bytes to it, and the progress. The number of the answer is 0, that of a [`ChannelRefusal`]
+/// or, after a step, [`CHANNEL_UNDER_WAY`]; place, word and rule are 0.
+///
+/// # Safety
+///
+/// As for [`RawRequest`]; the bytes from the device are only read.
+pub type RawChannel = unsafe extern "C" fn(
+    settings: u32,
+    storage: *mut u8,
+    storage_length: usize,
+    keys: *mut u8,
+    keys_length: usize,
+    key: u32,
+    first: u32,
+    grant: u32,
+    from: *const u8,
+    from_length: usize,
+    room: *mut u8,
+    room_length: usize,
+    progress: *mut u8,
+    progress_length: usize,
+) -> u64;
+
 /// Setting: the 4K facility is present.
 pub const FOUR_K: u32 = 1;
 /// Setting: the key-instruction extensions are present.
@@ -279,6 +349,42 @@ pub const PLAY_REFUSED: u32 = 4;
 pub const PLAY_RECORD_MAXIMUM: usize = 514;
 /// The number of bytes of output that any one line has room in.
 pub const PLAY_OUTPUT_MINIMUM: usize = 64;
+
+/// The number of bytes of a channel's progress. Numbers in it have the least significant byte
+/// first, and bytes that are not named here are zero.
+pub const PROGRESS_LENGTH: usize = 32;
+/// The first of the four bytes of a progress with the address of the CCW to come.
+pub const PROGRESS_ADDRESS_AT: usize = 0;
+/// The byte of a progress with the chaining, one of the numbers `CHAINING_...`.
+pub const PROGRESS_CHAINING_AT: usize = 4;
+/// The byte of a progress with the status: one of the numbers `PROGRESS_...`, or that of a
+/// [`ChannelRefusal`].
+pub const PROGRESS_STATUS_AT: usize = 5;
+/// The first of the four bytes of a progress with the number of CCWs that were fetched.
+pub const PROGRESS_FETCHED_AT: usize = 8;
+/// The first of the eight bytes of a progress with the number of bytes taken from the device.
+pub const PROGRESS_TAKEN_AT: usize = 16;
+/// The first of the eight bytes of a progress with the number of bytes given to the device.
+pub const PROGRESS_GIVEN_AT: usize = 24;
+
+/// Chaining: the CCW to come is the first.
+pub const CHAINING_FIRST: u8 = 0;
+/// Chaining: the CCW to come is reached by chain command.
+pub const CHAINING_COMMAND: u8 = 1;
+/// Chaining: the CCW to come is reached by a transfer in channel.
+pub const CHAINING_TRANSFER: u8 = 2;
+/// Chaining: the program has ended.
+pub const CHAINING_ENDED: u8 = 3;
+
+/// Status of a progress: the request is not begun.
+pub const PROGRESS_NOT_BEGUN: u8 = 0;
+/// Status of a progress: the request is under way.
+pub const PROGRESS_UNDER_WAY: u8 = 1;
+/// Status of a progress: the program ended, with the answer 0.
+pub const PROGRESS_ENDED: u8 = 2;
+
+/// The number that a step gives while the request is under way.
+pub const CHANNEL_UNDER_WAY: u16 = 255;
 
 /// The settings as a number.
 #[inline]
@@ -764,4 +870,130 @@ fn decode_player(bytes: &[u8; PLAYER_LENGTH]) -> ([Processor; 2], Player, [usize
     // A number of bytes of a slice is a usize, which has 64 bits where the library is.
     let counts = [PLAYER_READ_AT, PLAYER_WRITTEN_AT].map(|place| number(place) as usize);
     (decode_processors(&records), player, counts)
+}
+
+/// Calls a C function of a channel with slices: settings, storage, keys, the key, the address of
+/// the first CCW and the grant, the bytes from the device, the room for bytes to it, progress.
+///
+/// # Safety
+///
+/// `raw` must be a function as [`RawChannel`] describes it.
+#[inline]
+#[must_use]
+#[allow(clippy::too_many_arguments)]
+pub unsafe fn call_channel_raw(
+    raw: RawChannel,
+    settings: u32,
+    storage: &mut [u8],
+    keys: &mut [u8],
+    (key, first, grant): (u32, u32, u32),
+    from: &[u8],
+    room: &mut [u8],
+    progress: &mut [u8],
+) -> u64 {
+    // SAFETY: every pointer comes with the length of the slice it was taken from; what is
+    // written is lent exclusively. The caller guarantees what the function does.
+    unsafe {
+        raw(
+            settings,
+            storage.as_mut_ptr(),
+            storage.len(),
+            keys.as_mut_ptr(),
+            keys.len(),
+            key,
+            first,
+            grant,
+            from.as_ptr(),
+            from.len(),
+            room.as_mut_ptr(),
+            room.len(),
+            progress.as_mut_ptr(),
+            progress.len(),
+        )
+    }
+}
+
+/// Runs a whole request of a channel, or one step of it, through a C function. Gives the answer,
+/// or `None` while the request is under way.
+///
+/// # Safety
+///
+/// `raw` must be a function as [`RawChannel`] describes it.
+#[allow(clippy::too_many_arguments)]
+pub unsafe fn call_channel(
+    raw: RawChannel,
+    settings: Settings,
+    storage: &mut [u8],
+    keys: &mut [u8],
+    request: &ChannelRequest,
+    from: &[u8],
+    room: &mut [u8],
+    progress: &mut ChannelProgress,
+) -> Option<Result<(), ChannelRefusal>> {
+    let mut bytes = encode_progress(progress);
+    // SAFETY: the caller guarantees what the function does.
+    let packed = unsafe {
+        call_channel_raw(
+            raw,
+            encode_settings(settings),
+            storage,
+            keys,
+            (request.key, request.first, request.grant),
+            from,
+            room,
+            &mut bytes,
+        )
+    };
+    *progress = decode_progress(&bytes);
+    match packed_number(packed) {
+        0 => Some(Ok(())),
+        CHANNEL_UNDER_WAY => None,
+        number => Some(Err(ChannelRefusal::given(number))),
+    }
+}
+
+/// The bytes of a channel's progress.
+#[must_use]
+pub fn encode_progress(progress: &ChannelProgress) -> [u8; PROGRESS_LENGTH] {
+    let record = &progress.record;
+    let mut bytes = [0; PROGRESS_LENGTH];
+    bytes[PROGRESS_ADDRESS_AT..][..4].copy_from_slice(&record.address.to_le_bytes());
+    bytes[PROGRESS_CHAINING_AT] = record.chaining.number();
+    bytes[PROGRESS_STATUS_AT] = match progress.status {
+        ChannelStatus::NotBegun => PROGRESS_NOT_BEGUN,
+        ChannelStatus::UnderWay => PROGRESS_UNDER_WAY,
+        ChannelStatus::Answered(Ok(())) => PROGRESS_ENDED,
+        ChannelStatus::Answered(Err(refusal)) => refusal as u8,
+    };
+    bytes[PROGRESS_FETCHED_AT..][..4].copy_from_slice(&record.fetched.to_le_bytes());
+    bytes[PROGRESS_TAKEN_AT..][..8].copy_from_slice(&record.taken.to_le_bytes());
+    bytes[PROGRESS_GIVEN_AT..][..8].copy_from_slice(&record.given.to_le_bytes());
+    bytes
+}
+
+/// A channel's progress from its bytes. A chaining that there is not is taken for
+/// [`Chaining::Ended`], a status that there is not for [`ChannelRefusal::Configuration`], and
+/// bytes that should be zero are not looked at; no function leaves any of these.
+#[must_use]
+pub fn decode_progress(bytes: &[u8; PROGRESS_LENGTH]) -> ChannelProgress {
+    let number = |place: usize, length: usize| {
+        let mut number = [0; 8];
+        number[..length].copy_from_slice(&bytes[place..place + length]);
+        u64::from_le_bytes(number)
+    };
+    ChannelProgress {
+        status: match bytes[PROGRESS_STATUS_AT] {
+            PROGRESS_NOT_BEGUN => ChannelStatus::NotBegun,
+            PROGRESS_UNDER_WAY => ChannelStatus::UnderWay,
+            PROGRESS_ENDED => ChannelStatus::Answered(Ok(())),
+            refused => ChannelStatus::Answered(Err(ChannelRefusal::given(refused.into()))),
+        },
+        record: ChannelRecord {
+            address: number(PROGRESS_ADDRESS_AT, 4) as u32,
+            chaining: Chaining::from_number(bytes[PROGRESS_CHAINING_AT]),
+            fetched: number(PROGRESS_FETCHED_AT, 4) as u32,
+            taken: number(PROGRESS_TAKEN_AT, 8),
+            given: number(PROGRESS_GIVEN_AT, 8),
+        },
+    }
 }

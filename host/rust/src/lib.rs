@@ -6,7 +6,9 @@
 //! [`Completed`] or a [`Refusal`], and one that is refused has changed nothing. Most [`Reason`]s are
 //! the manual's program exceptions. The functions [`request`], [`fetch`] and [`store`] do the same
 //! with what is lent to each call. [`Machine::play`] and [`Machine::play_all`] take a recording of
-//! many requests, and give a line of text for each.
+//! many requests, and give a line of text for each. [`Machine::channel`] runs a program of a
+//! channel, which reads and writes storage under its own key, and [`Machine::channel_step`] one
+//! step of it.
 //!
 //! The work is done by the static library `libstorage_unit.a`, for x86-64 Linux. What it answers
 //! and leaves is proved for all inputs, against rules that rest on the IBM System/370 Principles
@@ -55,6 +57,7 @@
 mod answers;
 pub mod boundary;
 mod calls;
+mod channel;
 mod machine;
 mod player;
 mod requests;
@@ -63,6 +66,10 @@ mod version;
 
 pub use answers::{Answer, Completed, Reason, Refusal, Rule, UnknownReason};
 pub use calls::{fetch, request, store};
+pub use channel::{
+    Chaining, ChannelProgress, ChannelRecord, ChannelRefusal, ChannelReply, ChannelRequest,
+    ChannelStatus, UnknownChannelRefusal,
+};
 pub use machine::{BorrowedMachine, Cpu, Machine};
 pub use player::{PlayStatus, Played, PlayedAll, Player};
 pub use requests::{AccessKind, KeyInstruction, PrefixInstruction, Request};

@@ -8,14 +8,17 @@
 //!
 //! All have a function with the same parameters for any request, and each is a [`Unit`].
 //! [`player`] is document 02's player of recordings, on the reference, and [`plain_player`] an
-//! ordinary one, on [`plain`], for comparison of speed.
+//! ordinary one, on [`plain`], for comparison of speed. In the same way [`channel`] is document
+//! 02's channel, and [`plain_channel`] an ordinary one.
 
 #![deny(missing_docs)]
 #![deny(unsafe_op_in_unsafe_fn)]
 #![warn(clippy::undocumented_unsafe_blocks)]
 
+pub mod channel;
 pub mod numbers;
 pub mod plain;
+pub mod plain_channel;
 pub mod plain_player;
 pub mod player;
 pub mod reference;

@@ -236,7 +236,7 @@ fn unit_shift(settings: Settings) -> u32 {
 
 /// Whether the length of the storage or of the keys is wrong.
 #[inline(always)]
-fn lengths_wrong(shift: u32, length: usize, key_count: usize) -> bool {
+pub(crate) fn lengths_wrong(shift: u32, length: usize, key_count: usize) -> bool {
     // A right length is from 4,096 to 16,777,216, in steps of 4,096.
     length.wrapping_sub(4096) & !(MAXIMUM_STORAGE - 4096) != 0 || key_count != length >> shift
 }
@@ -830,7 +830,7 @@ pub unsafe extern "C" fn storage_unit_store_plain(
 ///
 /// The pointer must be valid for reads and writes of this many bytes, which nothing else
 /// reads or writes meanwhile. Where the length is 0, the pointer is not used.
-unsafe fn lent<'a>(pointer: *mut u8, length: usize) -> &'a mut [u8] {
+pub(crate) unsafe fn lent<'a>(pointer: *mut u8, length: usize) -> &'a mut [u8] {
     if length == 0 {
         return &mut [];
     }
@@ -844,7 +844,7 @@ unsafe fn lent<'a>(pointer: *mut u8, length: usize) -> &'a mut [u8] {
 ///
 /// The pointer must be valid for reads of this many bytes, which nothing else writes
 /// meanwhile. Where the length is 0, the pointer is not used.
-unsafe fn read_only<'a>(pointer: *const u8, length: usize) -> &'a [u8] {
+pub(crate) unsafe fn read_only<'a>(pointer: *const u8, length: usize) -> &'a [u8] {
     if length == 0 {
         return &[];
     }

@@ -24,6 +24,7 @@ pub mod player;
 pub mod reference;
 pub mod units;
 
+use storage_unit::boundary::RawChannel;
 use storage_unit::{Answer, Completed, Processor, Reason, Refusal, Request, Rule, Settings};
 
 /// Carries out one request for one processor: the settings, the storage, its keys, the
@@ -47,6 +48,18 @@ pub trait Unit {
 
     /// The function that carries out a request.
     const REQUEST: RequestFunction;
+}
+
+/// An implementation of the channel, by its C functions.
+pub trait ChannelUnit {
+    /// The name of the implementation, for messages.
+    const NAME: &'static str;
+
+    /// The function for a whole request.
+    const WHOLE: RawChannel;
+
+    /// The function for one step.
+    const STEP: RawChannel;
 }
 
 /// The answer of a completed request with this word and this rule.

@@ -1,11 +1,12 @@
-//! The implementations, and the ways in to them, each as a [`Unit`].
+//! The implementations, and the ways in to them, each as a [`Unit`], and their channels each as a
+//! [`ChannelUnit`].
 
-use storage_unit::boundary::{self, RawFetch, RawStore};
+use storage_unit::boundary::{self, RawChannel, RawFetch, RawStore};
 use storage_unit::{
     AccessKind, Answer, KeyInstruction, Machine, PrefixInstruction, Processor, Request, Settings,
 };
 
-use crate::{RequestFunction, Unit, plain, reference};
+use crate::{ChannelUnit, RequestFunction, Unit, plain, plain_channel, reference};
 
 /// The reference.
 pub struct Reference;
@@ -95,6 +96,18 @@ impl Unit for ProvedMachine {
             let mut machine = Machine::borrowed(settings, storage, keys, processors);
             by_method(&mut machine, number, asked, buffer)
         };
+}
+
+impl ChannelUnit for Plain {
+    const NAME: &'static str = "plain";
+    const WHOLE: RawChannel = plain_channel::storage_unit_channel_plain;
+    const STEP: RawChannel = plain_channel::storage_unit_channel_step_plain;
+}
+
+impl ChannelUnit for Proved {
+    const NAME: &'static str = "proved";
+    const WHOLE: RawChannel = boundary::storage_unit_channel;
+    const STEP: RawChannel = boundary::storage_unit_channel_step;
 }
 
 /// The C functions for fetch and store of an implementation.

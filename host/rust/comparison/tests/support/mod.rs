@@ -1,8 +1,10 @@
-//! What the tests share: random numbers, lent state, random requests and recordings.
+//! What the tests share: random numbers, lent state, random requests, recordings and programs of
+//! a channel.
 
 #![allow(dead_code)]
 
 pub mod cases;
+pub mod channels;
 pub mod recordings;
 
 use std::env;

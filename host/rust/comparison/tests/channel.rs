@@ -15,7 +15,13 @@ mod support;
 use std::fmt::Write;
 use std::thread;
 
-use storage_unit::boundary::{PROGRESS_LENGTH, call_channel_raw};
+use storage_unit::boundary::{
+    PROGRESS_LENGTH, RawChannel, call_channel_raw, decode_progress, encode_progress,
+    encode_settings, storage_unit_channel,
+};
+use storage_unit::{
+    ChannelProgress, ChannelRefusal, ChannelRequest, ChannelStatus, Machine, Settings,
+};
 use storage_unit_comparison::ChannelUnit;
 use storage_unit_comparison::channel::{
     self, Ccw, Chaining, Lent, Line, Progress, Record, Request, Status, Step,
@@ -263,12 +269,7 @@ impl Side {
         self.room.extend_from_slice(&asked.room);
     }
 
-    fn call(
-        &mut self,
-        function: storage_unit::boundary::RawChannel,
-        lengths: Lengths,
-        asked: &Asked,
-    ) -> u64 {
+    fn call(&mut self, function: RawChannel, lengths: Lengths, asked: &Asked) -> u64 {
         let Request { key, first, grant } = asked.request;
         // SAFETY: the tests call the functions of the comparison and of the static library.
         unsafe {
@@ -826,6 +827,218 @@ fn random_programs<U: ChannelUnit>() {
         counts.table(programs)
     );
     counts.check(programs);
+}
+
+/// Cases of a single step from any progress.
+#[derive(Debug, Default)]
+struct AnySteps {
+    /// By the number that is given.
+    numbers: [u64; STEP_NUMBERS.len()],
+    malformed: u64,
+    wrong_length: u64,
+    answered: u64,
+    fetched_over_grant: u64,
+    position_over_length: u64,
+    transferred: u64,
+}
+
+/// The numbers that a step can give.
+const STEP_NUMBERS: [u16; 9] = [0, 64, 65, 66, 71, 72, 73, 74, 255];
+
+/// A progress: mostly of a request that is under way, with any record; or one that is none.
+fn random_progress(random: &mut Random, asked: &Asked, seen: &mut AnySteps) -> Vec<u8> {
+    let mut bytes = vec![0; PROGRESS_LENGTH];
+    let ccw = match asked.ccws.len() {
+        0 => 0,
+        count => asked.ccws[random.below(count as u64) as usize].0,
+    };
+    let address = match random.below(16) {
+        0 => random.word(),
+        1 => ccw + random.below(8) as u32,
+        _ => ccw,
+    };
+    let grant = asked.request.grant;
+    let fetched = match random.below(16) {
+        0 => grant,
+        1 => grant.saturating_add(1),
+        2 => u32::MAX,
+        3 => grant.saturating_sub(1),
+        _ => random.below(u64::from(grant.clamp(1, 256))) as u32,
+    };
+    let mut position = |length: usize| {
+        let length = length as u64;
+        match random.below(16) {
+            0 => length,
+            1 => length + 1,
+            2 => random.pick(&[u64::MAX, u64::MAX - 65_534, 1 << 32, 1 << 63]),
+            _ => random.below(length / 2 + 1),
+        }
+    };
+    let (taken, given) = (position(asked.from.len()), position(asked.room.len()));
+    bytes[0..4].copy_from_slice(&address.to_le_bytes());
+    bytes[4] = random.below(3) as u8;
+    bytes[5] = match random.below(8) {
+        0 => random.pick(&[0, 2, 64, 65, 66, 71, 72, 73, 74]),
+        _ => 1,
+    };
+    bytes[8..12].copy_from_slice(&fetched.to_le_bytes());
+    bytes[16..24].copy_from_slice(&taken.to_le_bytes());
+    bytes[24..32].copy_from_slice(&given.to_le_bytes());
+    seen.fetched_over_grant += u64::from(bytes[5] == 1 && fetched > grant);
+    let over = taken > asked.from.len() as u64 || given > asked.room.len() as u64;
+    seen.position_over_length += u64::from(bytes[5] == 1 && over);
+    match random.below(32) {
+        0 => bytes[4] = 4 + random.below(252) as u8,
+        1 => bytes[5] = random.byte(),
+        2 => bytes[random.pick(&[6, 7, 12, 13, 14, 15])] = 1 << random.below(8),
+        3 => {
+            let length = random.pick(&[0, 1, 8, 31, 33, 64]);
+            bytes.resize(length, 0);
+        }
+        _ => {}
+    }
+    bytes
+}
+
+/// One step from any progress, by an implementation and by the reference.
+fn random_steps<U: ChannelUnit>() {
+    let steps = 200_000;
+    let pool = Pool::new(&mut Random::new(DEFAULT_SEED));
+    let mut seen = AnySteps::default();
+    let random = &mut Random::new(from_environment("STORAGE_UNIT_SEED", DEFAULT_SEED));
+    let place = Place {
+        length: 8192,
+        key_unit: 2048,
+    };
+    let right = Lengths {
+        settings: 2,
+        storage: 8192,
+        keys: 4,
+    };
+    let storage = random.bytes(right.storage + SPARE_STORAGE);
+    let mut sides = [(); 2].map(|()| Side::new(&storage, &[0; 4 + SPARE_KEYS]));
+    for number in 0..steps {
+        let asked = random_asked(random, &pool, place);
+        let progress = random_progress(random, &asked, &mut seen);
+        let known = channel::progress_from(&progress);
+        let answered = known.is_some_and(|known| matches!(known.status, Status::Answered(_)));
+        let lengths = if answered {
+            right
+        } else {
+            random_lengths(random, right)
+        };
+        seen.malformed += u64::from(known.is_none());
+        seen.wrong_length += u64::from(progress.len() != PROGRESS_LENGTH);
+        seen.answered += u64::from(answered);
+        for side in &mut sides {
+            side.prepare(&asked);
+            side.progress.clone_from(&progress);
+        }
+        let [expected, found] = &mut sides;
+        let mut lent = Lent {
+            settings: lengths.settings,
+            storage: &mut expected.storage[..lengths.storage],
+            keys: &mut expected.keys[..lengths.keys],
+            from: &asked.from,
+            room: &mut expected.room,
+        };
+        let right_answer =
+            channel::step_by_numbers(&mut lent, &asked.request, &mut expected.progress);
+        let given = found.call(U::STEP, lengths, &asked);
+        let message = || format!("step {number}: {progress:?}, {:?}", asked.request);
+        assert_eq!(given, right_answer, "{}", message());
+        assert_eq!(found.progress, expected.progress, "{}", message());
+        assert!(found.keys == expected.keys, "keys, {}", message());
+        assert!(found.room == expected.room, "room, {}", message());
+        assert!(found.storage == expected.storage, "storage, {}", message());
+        let column = STEP_NUMBERS.iter().position(|each| packed(*each) == given);
+        seen.numbers[column.expect("a number of a step")] += 1;
+        seen.transferred += u64::from(expected.progress.get(4) == Some(&2) && given == packed(255));
+    }
+    println!("{}: {seen:?}", U::NAME);
+    let cases = [
+        seen.malformed,
+        seen.wrong_length,
+        seen.answered,
+        seen.fetched_over_grant,
+        seen.position_over_length,
+        seen.transferred,
+    ];
+    for count in seen.numbers.iter().chain(&cases) {
+        assert!(*count >= steps / 500, "{seen:?}");
+    }
+}
+
+/// The methods of a machine against the C functions.
+#[test]
+fn methods_of_a_machine() {
+    let pool = Pool::new(&mut Random::new(DEFAULT_SEED));
+    let random = &mut Random::new(DEFAULT_SEED);
+    let (mut ended, mut refused, mut steps) = (0, 0, 0);
+    for _ in 0..100 {
+        let settings = Settings {
+            four_k: random.one_in(2),
+            extensions: random.one_in(2),
+        };
+        let mut machine = Machine::new(settings, 16_384).expect("a right length");
+        random.fill(&mut machine.storage);
+        let place = Place {
+            length: 16_384,
+            key_unit: settings.key_unit() as u32,
+        };
+        let lengths = Lengths {
+            settings: encode_settings(settings),
+            storage: 16_384,
+            keys: machine.keys.len(),
+        };
+        let mut raw = Side::new(&machine.storage, &machine.keys);
+        for _ in 0..100 {
+            let asked = random_asked(random, &pool, place);
+            let Request { key, first, grant } = asked.request;
+            let request = ChannelRequest { key, first, grant };
+            raw.prepare(&asked);
+            asked.write(&mut machine.storage, &mut machine.keys);
+            let mut stepped = machine.clone();
+            let (mut room, mut stepped_room) = (asked.room.clone(), asked.room.clone());
+
+            let reply = machine.channel(&request, &asked.from, &mut room);
+            let mut progress = ChannelProgress::default();
+            let answer = loop {
+                steps += 1;
+                let (from, room) = (&asked.from, &mut stepped_room);
+                match stepped.channel_step(&request, from, room, &mut progress) {
+                    Some(answer) => break answer,
+                    None => assert_eq!(progress.status, ChannelStatus::UnderWay),
+                }
+            };
+            raw.progress.resize(PROGRESS_LENGTH, 0xEE);
+            let given = raw.call(storage_unit_channel, lengths, &asked);
+
+            let number = reply.answer.map_or_else(ChannelRefusal::number, |()| 0);
+            assert_eq!(packed(number), given);
+            assert_eq!(progress.status, ChannelStatus::Answered(reply.answer));
+            assert_eq!((answer, progress.record), (reply.answer, reply.record));
+            assert_eq!(raw.progress, encode_progress(&progress));
+            assert_eq!(decode_progress(&encode_progress(&progress)), progress);
+            assert!(raw.room == room && room == stepped_room, "room");
+            assert!(raw.storage == machine.storage && raw.keys == machine.keys);
+            assert!(machine == stepped, "step by step");
+            ended += u64::from(reply.answer.is_ok());
+            refused += u64::from(reply.answer.is_err());
+        }
+    }
+    println!("{ended} ended, {refused} refused, {steps} steps");
+    assert!(ended > 1_000 && refused > 1_000 && steps > 50_000);
+}
+
+#[test]
+fn plain_random_steps() {
+    random_steps::<Plain>();
+}
+
+#[test]
+fn proved_random_steps() {
+    random_steps::<Proved>();
 }
 
 #[test]

@@ -25,10 +25,12 @@ use support::*;
 
 const DEFAULT_SEED: u64 = 42_370_000;
 
-/// Triples of lists, each run in `ORDERS` random orders.
+/// Triples of lists. Those with few turns are run in all orders, the others in `ORDERS` random
+/// ones.
 const APART: u64 = 10_000;
 const NOT_APART: u64 = 1_000;
 const ORDERS: usize = 30;
+const FEW_TURNS: usize = 7;
 const LONGEST_LIST: u64 = 12;
 const MOST_PROGRAMS: u64 = 6;
 
@@ -241,6 +243,51 @@ fn random_order<U: Unit + ChannelUnit>(
     }
 }
 
+/// The lists in this order of turns, each element a list that has one.
+fn in_order<U: Unit + ChannelUnit>(start: &Lent, lists: &Lists, order: &[usize]) -> Left {
+    let mut run = Run::new(start, lists);
+    for &list in order {
+        assert!(run.has_turns(list), "a turn is left");
+        run.turn::<U>(list);
+    }
+    assert!(
+        (0..3).all(|list| !run.has_turns(list)),
+        "the order has every turn"
+    );
+    run.left
+}
+
+/// How many turns each list has, run alone from the start.
+fn turns_of(start: &Lent, lists: &Lists) -> [usize; 3] {
+    let mut lent = start.clone();
+    let of_channel = lists.channel.iter().map(|program| {
+        let (_, _, steps) = names_of_program(&mut lent, program);
+        steps
+    });
+    let steps = of_channel.sum();
+    let [first, second] = &lists.processors;
+    [first.len(), second.len(), steps]
+}
+
+/// All orders of so many turns.
+fn all_orders(left: [usize; 3]) -> Vec<Vec<usize>> {
+    if left == [0; 3] {
+        return vec![Vec::new()];
+    }
+    let mut orders = Vec::new();
+    for list in 0..3 {
+        let mut rest = left;
+        if let Some(fewer) = left[list].checked_sub(1) {
+            rest[list] = fewer;
+            for mut order in all_orders(rest) {
+                order.insert(0, list);
+                orders.push(order);
+            }
+        }
+    }
+    orders
+}
+
 /// Units by how they are named: as fetches, otherwise.
 #[derive(Clone, Debug, Default)]
 struct Names {
@@ -271,8 +318,9 @@ fn names_of_turn(lent: &mut Lent, turn: &Turn) -> Names {
     names
 }
 
-/// What a request of the channel names in this state, its answer and its count. The state goes on.
-fn names_of_program(lent: &mut Lent, program: &Program) -> (Names, u16, u32) {
+/// What a request of the channel names in this state, the number of its answer and how many steps
+/// it takes. The state goes on.
+fn names_of_program(lent: &mut Lent, program: &Program) -> (Names, u16, usize) {
     let mut with = channel::Lent {
         settings: encode_settings(lent.settings),
         storage: &mut lent.storage,
@@ -282,12 +330,11 @@ fn names_of_program(lent: &mut Lent, program: &Program) -> (Names, u16, u32) {
     };
     let (progress, steps) = channel::whole(&mut with, &program.request);
     let mut names = Names::default();
-    for step in steps {
-        names.fetches.extend(step.fetches);
-        names.others.extend(step.others);
+    for step in &steps {
+        names.fetches.extend(&step.fetches);
+        names.others.extend(&step.others);
     }
-    let number = channel::number_given(&progress);
-    (names, number, progress.record.fetched)
+    (names, channel::number_given(&progress), steps.len())
 }
 
 /// What each list names, run alone from the start.
@@ -504,6 +551,8 @@ fn write_program(random: &mut Random, start: &mut Lent, owners: &[Owner]) -> Opt
 struct Seen {
     triples: u64,
     orders: u64,
+    /// Run in all orders, each list with a turn at least.
+    all_orders: u64,
     processor_requests: u64,
     channel_requests: u64,
     channel_steps: u64,
@@ -519,7 +568,6 @@ const NUMBERS: [u16; 8] = [0, 64, 65, 66, 71, 72, 73, 74];
 impl Seen {
     fn note(&mut self, lists: &Lists, left: &Left, names: &[Names; 3]) {
         self.triples += 1;
-        self.orders += ORDERS as u64;
         let turns: usize = lists.processors.iter().map(Vec::len).sum();
         self.processor_requests += turns as u64;
         self.channel_requests += lists.channel.len() as u64;
@@ -544,12 +592,13 @@ impl Seen {
     fn check(&self) {
         for (what, count, minimum) in [
             ("requests of processors", self.processor_requests, 50_000),
-            ("requests of the channel", self.channel_requests, 20_000),
-            ("CCWs", self.channel_steps, 50_000),
+            ("requests of the channel", self.channel_requests, 10_000),
+            ("CCWs", self.channel_steps, 30_000),
+            ("run in all orders", self.all_orders, 200),
             ("empty lists of the channel", self.empty_channel_lists, 500),
-            ("shared units", self.shared_units, 2_000),
-            ("shared with the channel", self.shared_with_channel, 1_500),
-            ("all three name units", self.all_three_busy, 2_000),
+            ("shared units", self.shared_units, 1_000),
+            ("shared with the channel", self.shared_with_channel, 800),
+            ("all three name units", self.all_three_busy, 1_200),
         ] {
             assert!(count >= minimum, "{what}: {count}, fewer than {minimum}");
         }
@@ -569,12 +618,18 @@ fn random_lists(random: &mut Random, restricted: bool) -> (Lent, Lists) {
     };
     // The programs are in storage before the first turn.
     let mut programs = Vec::new();
-    for _ in 0..random.below(MOST_PROGRAMS + 1) {
+    let few = random.one_in(4);
+    let most = if few { 1 } else { MOST_PROGRAMS };
+    for _ in 0..random.below(most + 1) {
         programs.extend(write_program(random, &mut start, &owners));
     }
     let mut lists = Lists::default();
     for list in 0..2 {
-        let length = random.below(LONGEST_LIST + 1);
+        let length = if few {
+            random.below(3)
+        } else {
+            random.below(LONGEST_LIST + 1)
+        };
         lists.processors[list] = random_turns(random, &start, list, length, takes(list));
     }
     let mut lent = start.clone();
@@ -618,10 +673,21 @@ fn orders_agree<U: Unit + ChannelUnit>() {
         let expected = one_after_another(&start, &lists);
         let whole = one_after_another_by::<U>(&start, &lists);
         assert_eq!(difference(&expected, &whole), None, "seed {seed}, whole");
-        for _ in 0..ORDERS {
-            let (left, order) = random_order::<U>(random, &start, &lists);
-            let different = difference(&expected, &left);
-            assert_eq!(different, None, "seed {seed}, order {order:?}");
+        let turns = turns_of(&start, &lists);
+        if turns.iter().sum::<usize>() <= FEW_TURNS {
+            for order in all_orders(turns) {
+                let different = difference(&expected, &in_order::<U>(&start, &lists, &order));
+                assert_eq!(different, None, "seed {seed}, order {order:?}");
+                seen.orders += 1;
+            }
+            seen.all_orders += u64::from(turns.iter().all(|turns| *turns > 0));
+        } else {
+            for _ in 0..ORDERS {
+                let (left, order) = random_order::<U>(random, &start, &lists);
+                let different = difference(&expected, &left);
+                assert_eq!(different, None, "seed {seed}, order {order:?}");
+                seen.orders += 1;
+            }
         }
         seen.note(&lists, &expected, &names);
     }
@@ -652,7 +718,7 @@ fn orders_differ<U: Unit + ChannelUnit>() {
     }
     let name = <U as Unit>::NAME;
     println!("{name}: {not_apart} not apart, of which {different} differ");
-    assert!(not_apart >= 500 && different >= 300);
+    assert!(not_apart >= 300 && different >= 200);
 }
 
 /// The state of the written lists: 2K units, no protection, prefix 0. A program of the channel

@@ -470,10 +470,12 @@ fn random_turns(
     turns
 }
 
-/// An address in a unit of one of these owners.
+/// An address in a unit of one of these owners, or now and then in any unit: then a request that
+/// names it is not taken.
 fn address_of(random: &mut Random, start: &Lent, owners: &[Owner], of: &[Owner]) -> Option<u32> {
+    let any = random.one_in(12);
     let units: Vec<usize> = (0..owners.len())
-        .filter(|unit| of.contains(&owners[*unit]))
+        .filter(|unit| any || of.contains(&owners[*unit]))
         .collect();
     if units.is_empty() {
         return None;

@@ -1,6 +1,6 @@
 -- A call by what the storage unit serves: completed, refused, or without a record. A completed request had a record that line 65 lets pass, so
 -- its bytes are known, and what is written over them is the record that the step leaves. Assumes nothing.
-use Prim.Native.Nat.{ℕ, _+_, _<_}
+use Prim.Native.Nat.{ℕ, _+_, _<_, _≤_}
 use mathlib.Core.Path.{_≡_, refl, sym, ap, subst, _∙_}
 use mathlib.Core.Bool.{Bool, true, false, not, _&&_}
 use mathlib.Core.Logic.{_≢_}
@@ -16,23 +16,29 @@ use Rattle.machine.specs.declared.PrefixInstruction.the-variants.{SetPrefix, St
 use Rattle.machine.specs.declared.Request.{Request}
 use Rattle.machine.specs.declared.Request.the-variants.{Prefix}
 use Rattle.machine.specs.declared.Answer.{Answer}
+use Rattle.machine.specs.declared.Reason.the-variants.{Operand}
+use Rattle.machine.specs.declared.Verdict.{Verdict}
+use Rattle.machine.specs.declared.Verdict.the-variants.{Clear, Stop}
 use Rattle.machine.specs.Lists.{written}
 use Rattle.machine.specs.Numbers.{lengthsValid, recordValid}
 use Rattle.machine.specs.Answers.{numberOf, values, line, firstOf, firstLine, answerOf, stops}
-use Rattle.machine.specs.Table.{beforeProtection, verdict}
+use Rattle.machine.specs.Table.{configuration, ownRecord, beforeProtection, verdict}
 use Rattle.machine.specs.Step.{withCode, withPrefix, outcome, completed, step}
 use Rattle.machine.specs.Pair.{withoutRecord}
 use Rattle.machine.proofs.AbsoluteAddress.{record-tested}
 use Rattle.machine.proofs.BeforeProtection.{cleared}
 use Rattle.machine.proofs.Conditions.{answer-in-table}
 use Rattle.machine.proofs.OwnRecord.{wrong-record}
+use Rattle.machine.proofs.Verdicts.{first-assoc}
 use Rattle.machine.proofs.Requests.{NoAccess, with-any-buffer, either-way, refused-request, refused-changes-nothing, completed-cleared, controls-stay}
-use Rattle.host.specs.Boundary.{recordAt, recordBytes, packed, Packs, callOutcome, recordsLeft, callServed, CallCondition1}
+use Rattle.boundary.specs.Boundary.{recordAt, recordBytes, requestOf, packed, Packs, callOutcome, recordsLeft, callServed, CallCondition1}
+use Rattle.boundary.specs.Words.{wordAt, stateValid}
+use Rattle.boundary.proofs.Records.{Holds, valid-record-is-written}
+use Rattle.boundary.proofs.Words.{state-wrong}
+use Rattle.boundary.proofs.Laws.{past-last-refused}
 use Rattle.host.specs.Serving.{Met, MetByInstruction}
-use Rattle.host.specs.Words.{wordAt, stateValid}
 use Rattle.host.specs.Writing.{prefixPut, recordPut}
-use Rattle.host.proofs.Records.{Holds, valid-record-is-written, record-put, same-put}
-use Rattle.host.proofs.Words.{state-wrong}
+use Rattle.host.proofs.Writing.{record-put, same-put}
 
 -- condition 1 of a call that changes nothing, whatever its answer
 pub nothing-changes : (answer : Answer) {result : ℕ} {storage keys bytes buffer storage′ keys′ bytes′ buffer′ : List ℕ} → Packs result answer
@@ -181,3 +187,21 @@ wrong-call bytes s storage keys at r buffer byte wrong given =
         ≡ step s storage keys (recordAt bytes at) r buffer
     go true e = wrong-record s storage keys (recordAt bytes at) r buffer (state-wrong bytes at byte (length storage) (rw e at wrong))
     go false e = wrong-lengths s storage keys (recordAt bytes at) r buffer e
+
+-- a refusal stops, whatever comes before it
+stopped : (v : Verdict) → stops (firstOf v (Stop Operand 0)) ≡ true
+unfolding firstOf
+stopped Clear = refl
+stopped (Stop reason place) = refl
+
+-- both conditions of a call with an operation number past the last
+pub past-last-call : (bytes : List ℕ) (s : Settings) (storage keys : List ℕ) (at : ℕ) {p : Processor} (operation a b : ℕ) (buffer : List ℕ) {result : ℕ}
+    → 10 ≤ operation → p ≡ recordAt bytes at → ((i : ℕ) → getD bytes i 0 < 256)
+    → Packs result
+    (answerOf (firstOf (firstOf (configuration s (length storage) (length keys)) (ownRecord (length storage) p)) (Stop Operand 0)) 0 0)
+    → Met s (requestOf operation a b) at result storage keys bytes buffer storage keys bytes buffer
+past-last-call bytes s storage keys at {p} operation a b buffer h read byte given =
+    let lines = firstOf (configuration s (length storage) (length keys)) (ownRecord (length storage) p) in
+    let found = first-assoc _ _ _ ∙ sym (past-last-refused s (length storage) keys p operation a b (length buffer) h) in
+    kept-call bytes s storage keys at (requestOf operation a b) buffer (answerOf (firstOf lines (Stop Operand 0)) 0 0) read
+    (refused-request s storage keys p (requestOf operation a b) buffer found 0 0 (stopped lines)) byte given

@@ -1,6 +1,3 @@
--- The laws of the boundary.
-pub mod Laws
+-- The laws of calls.
+pub mod Writing
 pub mod Calls
-pub mod Records
-pub mod Words
-pub mod PairCalls

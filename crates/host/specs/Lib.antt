@@ -1,7 +1,4 @@
--- What the boundary means: numbers and bytes as settings, records, requests and answers.
-pub mod Boundary
--- A record as two words, and how the code writes one
-pub mod Words
+-- How the code writes a record
 pub mod Writing
 -- What is served over the bytes of the records
 pub mod Serving

@@ -5,7 +5,7 @@ use mathlib.Core.List.{List}
 use Rattle.machine.specs.declared.Settings.{Settings}
 use Rattle.machine.specs.declared.Request.{Request}
 use Rattle.machine.specs.Step.{step}
-use Rattle.host.specs.Boundary.{recordAt, callOutcome, callServed, CallCondition1}
+use Rattle.boundary.specs.Boundary.{recordAt, callOutcome, callServed, CallCondition1}
 
 abbrev pub Met : Settings → Request → (at result : ℕ) → (storage keys records buffer storage′ keys′ records′ buffer′ : List ℕ) → Type 0
 Met s r at result storage keys records buffer storage′ keys′ records′ buffer′ =

@@ -6,7 +6,7 @@ use lib.ListN.{getD, set}
 use lib.Dec.{eqb}
 use Rattle.machine.specs.declared.Processor.{Processor}
 use Rattle.machine.specs.Lists.{written}
-use Rattle.host.specs.Boundary.{prefixBytes}
+use Rattle.boundary.specs.Boundary.{prefixBytes}
 
 abbrev pub prefixPut : List ℕ → ℕ → ℕ → ℕ → List ℕ
 prefixPut bytes at before after = cond (eqb before after) bytes (written bytes (λ i. at + (4 + i)) (λ i. getD (prefixBytes after) i 0) 4)

@@ -1,12 +1,11 @@
 // The boundary for programs in C, Rust and other languages: numbers and byte slices only. Nothing is asked of the caller: whatever the
 // numbers and bytes are, the call ends with an answer of the table, and one that is not completed changes nothing.
-pub mod record;
-pub mod request;
+mod record;
 mod serve;
 
-use crate::record::settings_of;
-use crate::request::pack;
 use crate::serve::serve_bytes;
+use boundary::pack;
+use boundary::settings_of;
 use machine::Answer;
 use machine::Reason;
 use machine::Settings;
@@ -15,7 +14,7 @@ use table::numbers::without_record;
 ghost use mathlib.Core.Path.{_≡_};
 ghost use Rattle.machine.specs.Answers.{answerOf};
 ghost use Rattle.machine.specs.Pair.{withoutRecord};
-ghost use Rattle.host.specs.Boundary.{versionNumber, Packs, callOutcome, called, CallCondition1};
+ghost use Rattle.boundary.specs.Boundary.{versionNumber, Packs, callOutcome, called, CallCondition1};
 
 // The version of the boundary.
 #[no_mangle]

@@ -3,13 +3,13 @@
 // record apart by itself, is for speed (docs/BENCHMARK.md).
 use crate::record::put_prefix;
 use crate::record::put_record;
-use crate::record::record_of;
-use crate::record::state_valid;
 use crate::record::word_at;
 use crate::refused;
-use crate::request::pack;
 use access::fetch;
 use access::store;
+use boundary::pack;
+use boundary::record_of;
+use boundary::state_valid;
 use key_instruction::insert::isk;
 use key_instruction::insert::iske;
 use key_instruction::reset::rrb;
@@ -33,8 +33,8 @@ ghost use Prim.Native.Nat.{_*_, _<_, _≤_};
 ghost use lib.ListN.{length};
 ghost use Rattle.machine.specs.Answers.{answerOf, firstOf};
 ghost use Rattle.machine.specs.Table.{configuration, ownRecord};
-ghost use Rattle.host.specs.Boundary.{requestOf, recordAt, Packs};
-ghost use Rattle.host.specs.Words.{recordOf};
+ghost use Rattle.boundary.specs.Boundary.{requestOf, recordAt, Packs};
+ghost use Rattle.boundary.specs.Words.{recordOf};
 ghost use Rattle.host.specs.Writing.{recordPut};
 ghost use Rattle.host.specs.Serving.{Met, MetByInstruction};
 

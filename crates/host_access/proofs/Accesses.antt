@@ -30,11 +30,11 @@ use Rattle.machine.proofs.Requests.{either-way, refused-changes-nothing, comple
 use Rattle.machine.proofs.AbsoluteAddress.{record-tested}
 use Rattle.machine.proofs.BeforeProtection.{cleared}
 use Rattle.machine.proofs.Written.{written-back}
-use Rattle.host.specs.Boundary.{settingsOf, recordAt, recordBytes, requestOf, Packs, packed}
-use Rattle.host.specs.Boundary.{callOutcome, recordsLeft, callRefused, calledWith, called}
-use Rattle.host.specs.Words.{wordAt, stateValid, recordOf}
-use Rattle.host.proofs.Records.{last-word, same-record, valid-record-is-written}
-use Rattle.host.proofs.Words.{state-wrong, state-read}
+use Rattle.boundary.specs.Boundary.{settingsOf, recordAt, recordBytes, requestOf, Packs, packed}
+use Rattle.boundary.specs.Boundary.{callOutcome, recordsLeft, callRefused, calledWith, called}
+use Rattle.boundary.specs.Words.{wordAt, stateValid, recordOf}
+use Rattle.boundary.proofs.Records.{last-word, same-record, valid-record-is-written}
+use Rattle.boundary.proofs.Words.{state-wrong, state-read}
 use Rattle.host_access.specs.ShortWay.{numberBytes, recordIn, accessOutcome, accessServed, accessed, AccessCondition1}
 
 -- the greater half of a number below 2^64, from its four bytes

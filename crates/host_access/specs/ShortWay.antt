@@ -15,7 +15,7 @@ use Rattle.machine.specs.declared.Verdict.the-variants.{Stop}
 use Rattle.machine.specs.Answers.{values, answerOf}
 use Rattle.machine.specs.Step.{Outcome, step}
 use Rattle.machine.specs.Conditions.{numbers, isIn}
-use Rattle.host.specs.Boundary.{settingsOf, recordAt, packed, numberIn}
+use Rattle.boundary.specs.Boundary.{settingsOf, recordAt, packed, numberIn}
 
 -- the eight bytes of a number, the least first, and the record in them
 abbrev pub numberBytes : ℕ → List ℕ

@@ -4,11 +4,11 @@
 // into an object of its own, is for speed (docs/BENCHMARK.md).
 use access::fetch;
 use access::store;
-use host::record::record_of;
-use host::record::settings_of;
-use host::record::state_valid;
+use boundary::pack;
+use boundary::record_of;
+use boundary::settings_of;
+use boundary::state_valid;
 use host::refused;
-use host::request::pack;
 use machine::AccessKind;
 use machine::Answer;
 use machine::Reason;

@@ -16,7 +16,7 @@ use Rattle.machine.specs.declared.channel.ChannelProgress.{ChannelProgress}
 use Rattle.machine.specs.declared.channel.ChannelReply.{ChannelReply}
 use Rattle.machine.specs.Channel.{channelValues, Channel, channel, channelStep, answerIn, outcomeIn, ChannelOutcome, channelOutcome, channelRun}
 use Rattle.machine.proofs.Verdicts.{both}
-use Rattle.host.specs.Boundary.{settingsOf, packed}
+use Rattle.boundary.specs.Boundary.{settingsOf, packed}
 use Rattle.host_channel.specs.ChannelCalls.{statusOf, progressValid, progressIn, progressLeft, resultOf, ChannelCall, channelCall, callLeft}
 use Rattle.host_channel.specs.ChannelCalls.{unfitAnswer, callUnless, channelCalled, channelStepCalled}
 

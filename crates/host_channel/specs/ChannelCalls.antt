@@ -24,7 +24,7 @@ use Rattle.machine.specs.Numbers.{lengthsValid}
 use Rattle.machine.specs.Answers.{Values}
 use Rattle.machine.specs.Channel.{channelValues, channel, begun, channelStep, ChannelOutcome, outcomeIn, channelRun}
 use Rattle.house_record.specs.Little.{little, littleBytes}
-use Rattle.host.specs.Boundary.{settingsOf, packed}
+use Rattle.boundary.specs.Boundary.{settingsOf, packed}
 
 -- how control comes to the CCW to come: 0 it is the first, 1 by the chain-command flag, 2 by a transfer in channel, 3 none is to come
 abbrev pub chainingNumber : Chaining → ℕ

@@ -11,14 +11,14 @@ use crate::progress::standing_status;
 use crate::progress::status_of;
 use channel::channel_request;
 use channel::channel_step;
-use host::record::settings_of;
+use boundary::settings_of;
 use machine::Settings;
 use machine::channel::ChannelAnswer;
 use machine::channel::ChannelReason;
 use machine::channel::ChannelRequest;
 use table::numbers::lengths_valid;
 ghost use mathlib.Core.Path.{_≡_};
-ghost use Rattle.host.specs.Boundary.{packed};
+ghost use Rattle.boundary.specs.Boundary.{packed};
 ghost use Rattle.machine.specs.Channel.{channelValues};
 ghost use Rattle.host_channel.specs.ChannelCalls.{unfitAnswer, channelCall, channelCalled, channelStepCalled};
 

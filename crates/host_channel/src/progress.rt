@@ -15,7 +15,7 @@ ghost use Prim.Native.Nat.{_+_, _≤_, _<_};
 ghost use mathlib.Core.Path.{_≡_};
 ghost use mathlib.Core.Option.{some};
 ghost use lib.ListN.{length};
-ghost use Rattle.host.specs.Boundary.{packed};
+ghost use Rattle.boundary.specs.Boundary.{packed};
 ghost use Rattle.house_record.specs.Little.{little};
 ghost use Rattle.machine.specs.Channel.{channelValues, answerIn};
 ghost use Rattle.host_channel.specs.ChannelCalls.{chainingNumber, chainingOf, statusOf, statusValid, refusalOf, standingOf, progressValid, progressIn};

@@ -8,7 +8,7 @@ use lib.ListN.{length}
 use lib.Dec.{eqb}
 use borrow.Author.Tests.{lt-ltb, le-ltb, eq-eqb, ne-eqb}
 use Rattle.machine.specs.declared.Settings.{Settings}
-use Rattle.host.specs.Boundary.{settingsOf}
+use Rattle.boundary.specs.Boundary.{settingsOf}
 use Rattle.player.specs.declared.Player.{Player}
 use Rattle.player.specs.declared.Played.{Played}
 use Rattle.player.specs.Play.{progressOf, played, PlayOutcome, playOutcome, playOutcomeOf}

@@ -9,8 +9,8 @@ use lib.ListN.{length, getD, take, drop, length-append, length-drop, List·getD-
 use lib.Seq.{length-take-le, getD-append-add, getD-take, getD-drop}
 use Rattle.machine.specs.declared.Processor.{Processor}
 use Rattle.machine.specs.Step.{withCode, withPrefix}
-use Rattle.host.specs.Boundary.{recordAt}
-use Rattle.host.proofs.Records.{same-record}
+use Rattle.boundary.specs.Boundary.{recordAt}
+use Rattle.boundary.proofs.Records.{same-record}
 use Rattle.house_record.specs.Little.{little, littleBytes}
 use Rattle.house_record.proofs.LittleBytes.{little-same, length-littleBytes, little-written-at}
 use Rattle.house_record.proofs.Fieldwise.{one}

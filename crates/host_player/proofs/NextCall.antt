@@ -8,7 +8,7 @@ use mathlib.Core.List.{List}
 use lib.ListN.{length, getD}
 use lib.Dec.{eqb}
 use borrow.Author.Tests.{lt-ltb, eq-eqb}
-use Rattle.host.specs.Boundary.{settingsOf}
+use Rattle.boundary.specs.Boundary.{settingsOf}
 use Rattle.house_record.specs.Little.{little}
 use Rattle.house_record.proofs.LittleBytes.{Bytes, little-bound}
 use Rattle.player.specs.declared.Player.{Player}

@@ -9,7 +9,7 @@ use lib.ListN.{length, getD, set, drop}
 use lib.Seq.{paste, drop-drop, getD-drop}
 use borrow.Author.Tests.{lt-ltb, le-ltb, eq-eqb, ne-eqb}
 use Rattle.machine.specs.declared.Processor.{Processor}
-use Rattle.host.specs.Boundary.{reservedZero, recordAt}
+use Rattle.boundary.specs.Boundary.{reservedZero, recordAt}
 use Rattle.house_record.specs.Little.{little, littleBytes}
 use Rattle.house_record.proofs.LittleBytes.{length-littleBytes}
 use Rattle.player.specs.declared.Played.{Played}

@@ -8,7 +8,7 @@ use mathlib.Core.List.{List, [], _∷_}
 use lib.ListN.{length, getD}
 use Rattle.machine.specs.declared.Processor.{Processor}
 use Rattle.machine.specs.Step.{withCode, withPrefix}
-use Rattle.host.specs.Boundary.{recordAt}
+use Rattle.boundary.specs.Boundary.{recordAt}
 use Rattle.house_record.specs.Little.{little}
 use Rattle.player.specs.declared.Player.{Player}
 use Rattle.player.specs.declared.Played.{Played}

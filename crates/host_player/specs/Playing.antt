@@ -7,7 +7,7 @@ use mathlib.Core.List.{List, [], _∷_}
 use lib.ListN.{length, getD}
 use lib.Dec.{eqb, ltb}
 use Rattle.machine.specs.declared.Processor.{Processor}
-use Rattle.host.specs.Boundary.{settingsOf, recordAt}
+use Rattle.boundary.specs.Boundary.{settingsOf, recordAt}
 use Rattle.house_record.specs.Little.{little, littleBytes}
 use Rattle.player.specs.declared.Player.{Player}
 use Rattle.player.specs.declared.Played.{Played}

@@ -5,7 +5,7 @@ mod state;
 use crate::state::player_in;
 use crate::state::put_player;
 use crate::state::status_number;
-use host::record::settings_of;
+use boundary::settings_of;
 use player::play;
 ghost use mathlib.Core.Path.{_≡_};
 ghost use Rattle.host_player.specs.Playing.{playCall, playCalled};

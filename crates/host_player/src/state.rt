@@ -8,7 +8,7 @@ ghost use Prim.Native.Nat.{_+_, _≤_};
 ghost use mathlib.Core.Path.{_≡_};
 ghost use mathlib.Core.Bool.{cond};
 ghost use lib.ListN.{length};
-ghost use Rattle.host.specs.Boundary.{reservedZero, recordAt};
+ghost use Rattle.boundary.specs.Boundary.{reservedZero, recordAt};
 ghost use Rattle.house_record.specs.Little.{little};
 ghost use Rattle.host_player.specs.Playing.{playerIn, put, putRecord, putRecords, playerLeft, statusNumber};
 

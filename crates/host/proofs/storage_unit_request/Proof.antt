@@ -7,7 +7,7 @@ use Rattle.machine.specs.declared.Reason.the-variants.{Configuration}
 use Rattle.machine.specs.Answers.{answerOf}
 use Rattle.machine.specs.Pair.{withoutRecord}
 use Rattle.machine.proofs.Verdicts.{both}
-use Rattle.host.specs.Boundary.{calledWith, called}
+use Rattle.boundary.specs.Boundary.{calledWith, called}
 use Rattle.host.proofs.Calls.{nothing-changes}
 use borrow.Author.Needs.{needs}
 use Rattle.host.proofs.storage_unit_request.Statement.{statement}

@@ -3,8 +3,7 @@
 use Prim.Native.Nat.{_≤_}
 use native.Mathlib.Omega.{arith}
 use Rattle.machine.proofs.Tests.{five-more}
-use Rattle.host.proofs.Laws.{past-last-call}
-use Rattle.host.proofs.Calls.{kept-instruction, served-instruction}
+use Rattle.host.proofs.Calls.{kept-instruction, served-instruction, past-last-call}
 use borrow.Author.Needs.{needs}
 use Rattle.host.proofs.serve.instruction_words.Statement.{statement}
 use Rattle.host.proofs.serve.instruction_words.Tie as tie

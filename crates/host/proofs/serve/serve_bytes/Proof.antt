@@ -2,7 +2,7 @@
 use mathlib.Core.Bool.{_&&_}
 use native.Mathlib.Omega.{arith}
 use Rattle.machine.proofs.Verdicts.{both}
-use Rattle.host.proofs.Words.{state-read}
+use Rattle.boundary.proofs.Words.{state-read}
 use Rattle.host.proofs.Calls.{turned-true, turned-false, wrong-call}
 use borrow.Author.Needs.{needs}
 use Rattle.host.proofs.serve.serve_bytes.Statement.{statement}

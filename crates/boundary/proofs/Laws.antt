@@ -1,30 +1,25 @@
 -- An answer is read back from its packed number; an operation number past the last is refused. Assumes nothing.
 use Prim.Native.Nat.{ℕ, _+_, _/_, _%_, _<_, _≤_}
-use mathlib.Core.Path.{_≡_, refl, sym, _∙_}
-use mathlib.Core.Bool.{true}
+use mathlib.Core.Path.{_≡_, sym}
 use mathlib.Core.Logic.{_≢_}
 use mathlib.Core.List.{List}
 use native.Mathlib.Omega.{arith}
-use lib.ListN.{length, getD, List·getD-eq-default}
+use lib.ListN.{length, List·getD-eq-default}
 use Rattle.machine.specs.declared.Settings.{Settings}
 use Rattle.machine.specs.declared.Processor.{Processor}
 use Rattle.machine.specs.declared.AccessKind.the-variants.{Fetch}
 use Rattle.machine.specs.declared.Request.{Request}
 use Rattle.machine.specs.declared.Request.the-variants.{Access}
 use Rattle.machine.specs.declared.Reason.the-variants.{Operand}
-use Rattle.machine.specs.declared.Verdict.{Verdict}
-use Rattle.machine.specs.declared.Verdict.the-variants.{Clear, Stop}
-use Rattle.machine.specs.Answers.{Values, line, firstOf, firstLine, answerOf, stops}
+use Rattle.machine.specs.declared.Verdict.the-variants.{Stop}
+use Rattle.machine.specs.Answers.{Values, line, firstOf, firstLine}
 use Rattle.machine.specs.Table.{configuration, ownRecord, beforeProtection, verdict}
 use Rattle.machine.specs.Step.{step}
 use Rattle.machine.proofs.Verdicts.{first-assoc}
-use Rattle.machine.proofs.Requests.{refused-request}
 use Rattle.machine.proofs.AnswerPlace.{place-below-256}
 use Rattle.machine.proofs.Refusals.{refused-word}
 use Rattle.machine.proofs.AnswerRule.{refused-rule, rule-at-most-3}
-use Rattle.host.specs.Boundary.{recordAt, requests, requestOf, packed, numberIn, placeIn, wordIn, ruleIn, Packs}
-use Rattle.host.specs.Serving.{Met}
-use Rattle.host.proofs.Calls.{kept-call}
+use Rattle.boundary.specs.Boundary.{requests, requestOf, packed, numberIn, placeIn, wordIn, ruleIn}
 
 -- number, place, word and rule, where the word has 32 bits and the rule eight; of the place, eight bits
 pub answer-is-read : (v : Values) → v .word < 4294967296 → v .rule < 256
@@ -60,21 +55,3 @@ pub past-last-refused : (s : Settings) (storageLength : ℕ) (keys : List ℕ) (
     ≡ firstOf (configuration s storageLength (length keys)) (firstOf (ownRecord storageLength p) (Stop Operand 0))
 unfolding line firstOf firstLine beforeProtection verdict
 past-last-refused s storageLength keys p operation a b bufferLength h = rw (← past-last operation a b h) (simp first-assoc)
-
--- a refusal stops, whatever comes before it
-stopped : (v : Verdict) → stops (firstOf v (Stop Operand 0)) ≡ true
-unfolding firstOf
-stopped Clear = refl
-stopped (Stop reason place) = refl
-
--- both conditions of a call with such a number
-pub past-last-call : (bytes : List ℕ) (s : Settings) (storage keys : List ℕ) (at : ℕ) {p : Processor} (operation a b : ℕ) (buffer : List ℕ) {result : ℕ}
-    → 10 ≤ operation → p ≡ recordAt bytes at → ((i : ℕ) → getD bytes i 0 < 256)
-    → Packs result
-    (answerOf (firstOf (firstOf (configuration s (length storage) (length keys)) (ownRecord (length storage) p)) (Stop Operand 0)) 0 0)
-    → Met s (requestOf operation a b) at result storage keys bytes buffer storage keys bytes buffer
-past-last-call bytes s storage keys at {p} operation a b buffer h read byte given =
-    let lines = firstOf (configuration s (length storage) (length keys)) (ownRecord (length storage) p) in
-    let found = first-assoc _ _ _ ∙ sym (past-last-refused s (length storage) keys p operation a b (length buffer) h) in
-    kept-call bytes s storage keys at (requestOf operation a b) buffer (answerOf (firstOf lines (Stop Operand 0)) 0 0) read
-    (refused-request s storage keys p (requestOf operation a b) buffer found 0 0 (stopped lines)) byte given

@@ -12,9 +12,9 @@ use lib.Dec.{leb}
 use borrow.Author.Tests.{leb-true}
 use Rattle.machine.specs.Numbers.{recordValid}
 use Rattle.machine.proofs.Verdicts.{not-both, both}
-use Rattle.host.specs.Boundary.{reservedZero, reservedZeroAt, recordAt}
-use Rattle.host.specs.Words.{wordAt, stateValid, recordOf}
-use Rattle.host.proofs.Records.{word-digits}
+use Rattle.boundary.specs.Boundary.{reservedZero, reservedZeroAt, recordAt}
+use Rattle.boundary.specs.Words.{wordAt, stateValid, recordOf}
+use Rattle.boundary.proofs.Records.{word-digits}
 
 -- The word of four bytes.
 module _ (a b c d : ℕ) (ha : a < 256) (hb : b < 256) (hc : c < 256) (hd : d < 256) where

@@ -2,8 +2,8 @@
 use native.Mathlib.Omega.{arith}
 use Rattle.machine.proofs.Requests.{number-of-reason}
 use borrow.Author.Needs.{needs}
-use Rattle.host.proofs.request.pack.Statement.{statement}
-use Rattle.host.proofs.request.pack.Tie as tie
+use Rattle.boundary.proofs.pack.Statement.{statement}
+use Rattle.boundary.proofs.pack.Tie as tie
 
 enum-known-answer : tie.Need-enum-known-answer
 enum-known-answer c = search needs

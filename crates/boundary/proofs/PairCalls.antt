@@ -20,8 +20,8 @@ use Rattle.machine.specs.Pair.{PairOutcome, pairStep}
 use Rattle.machine.proofs.Written.{written-elsewhere}
 use Rattle.machine.proofs.Requests.{either-way, refused-changes-nothing}
 use Rattle.machine.proofs.Pairs.{own-step, other-number-refused}
-use Rattle.host.specs.Boundary.{recordAt, recordBytes, packed, CallOutcome, callOutcome, recordsLeft, calledWith}
-use Rattle.host.proofs.Records.{same-record, written-record-is-read}
+use Rattle.boundary.specs.Boundary.{recordAt, recordBytes, packed, CallOutcome, callOutcome, recordsLeft, calledWith}
+use Rattle.boundary.proofs.Records.{same-record, written-record-is-read}
 
 -- the pair of records in sixteen bytes, processor 0's first
 abbrev pub pairOf : List ℕ → List Processor

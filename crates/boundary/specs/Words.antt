@@ -6,7 +6,7 @@ use mathlib.Core.List.{List}
 use lib.ListN.{getD}
 use lib.Dec.{leb}
 use Rattle.machine.specs.declared.Processor.{Processor}
-use Rattle.host.specs.Boundary.{bit, reservedZero}
+use Rattle.boundary.specs.Boundary.{bit, reservedZero}
 
 -- the number in the four bytes from `at` on
 abbrev pub wordAt : List ℕ → ℕ → ℕ

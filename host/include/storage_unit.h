@@ -13,7 +13,7 @@
  *
  * The functions are in the static library libstorage_unit.a, for x86-64 Linux, which needs memcpy,
  * memmove and memset from the C library and nothing else. What a call answers and leaves is proved;
- * it is defined in the repository, in crates/host/specs/Boundary.antt,
+ * it is defined in the repository, in crates/boundary/specs/Boundary.antt,
  * crates/host_access/specs/ShortWay.antt and crates/host_player/specs/Playing.antt.
  *
  * "Bit 0" of a register is the leftmost of 32, as in the manual, GA22-7000. The constants below are

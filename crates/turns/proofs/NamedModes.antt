@@ -1,8 +1,8 @@
--- How a turn treats a unit follows from how it names it: a unit that it does not name it does not treat, and one that it names by fetches only it
--- fetches. A byte is treated as its unit's key; the lengths are looked at. Shown for each action, and so for sequences.
+-- How a turn names a unit is how it treats its key: not at all, by fetching it, or otherwise. A byte is treated as its unit's key; the lengths are
+-- looked at. Shown for each action, and so for sequences.
 -- Assumes nothing.
 use Prim.Native.Nat.{ℕ}
-use mathlib.Core.Path.{_≡_, refl}
+use mathlib.Core.Path.{_≡_, refl, sym, ap, _∙_}
 use mathlib.Core.Bool.{Bool, true, false, cond, not, _&&_}
 use mathlib.Core.Logic.{_≢_}
 use mathlib.Core.Option.{Option, none, some}
@@ -29,33 +29,34 @@ unnamed-not-otherwise e = let z : _≡_ {A = ℕ} 0 1 = cc in omega arith
 pub fetching-not-otherwise : fetching ≢ otherwise
 fetching-not-otherwise e = let z : _≡_ {A = ℕ} 0 1 = cc in omega arith
 
--- a unit that is named or not, by a fetch or not, which completes or not
-unnamed-untouched : (isNamed isFetched completes : Bool) → cond isNamed (cond isFetched fetching otherwise) unnamed ≡ unnamed
-    → cond isNamed (cond isFetched (fetch completes) write) untouched ≡ untouched
-unnamed-untouched false f c e = refl
-unnamed-untouched true true c e = cc
-unnamed-untouched true false c e = cc
+abbrev nameOf : Mode → Naming
+nameOf untouched = unnamed
+nameOf (fetch completed) = fetching
+nameOf write = otherwise
 
-fetching-reads : (isNamed isFetched completes : Bool) → cond isNamed (cond isFetched fetching otherwise) unnamed ≢ otherwise
-    → Reads (cond isNamed (cond isFetched (fetch completes) write) untouched)
-fetching-reads false f c h = untreated
-fetching-reads true true c h = fetched
-fetching-reads true false c h = absurd (h refl)
+name-untouched : (a : Mode) → nameOf a ≡ unnamed → a ≡ untouched
+name-untouched untouched e = refl
+name-untouched (fetch completed) e = cc
+name-untouched write e = cc
 
--- two actions
-together-unnamed : (a b : Naming) → together a b ≡ unnamed → (a ≡ unnamed) × (b ≡ unnamed)
-together-unnamed unnamed b e = (refl, e)
-together-unnamed fetching unnamed e = (e, refl)
-together-unnamed fetching fetching e = (e, e)
-together-unnamed fetching otherwise e = (cc, e)
-together-unnamed otherwise b e = (e, cc)
+name-reads : (a : Mode) → nameOf a ≢ otherwise → Reads a
+name-reads untouched h = untreated
+name-reads (fetch completed) h = fetched
+name-reads write h = absurd (h refl)
 
-together-fetches : (a b : Naming) → together a b ≢ otherwise → (a ≢ otherwise) × (b ≢ otherwise)
-together-fetches unnamed b h = (unnamed-not-otherwise, h)
-together-fetches fetching unnamed h = (h, unnamed-not-otherwise)
-together-fetches fetching fetching h = (h, h)
-together-fetches fetching otherwise h = absurd (h refl)
-together-fetches otherwise b h = absurd (h refl)
+-- a unit that is named or not, by a fetch or not, which completes or not; and two actions
+named-mode : (isNamed isFetched completes : Bool)
+    → cond isNamed (cond isFetched fetching otherwise) unnamed ≡ nameOf (cond isNamed (cond isFetched (fetch completes) write) untouched)
+named-mode false f c = refl
+named-mode true true c = refl
+named-mode true false c = refl
+
+name-both : (a b : Mode) → together (nameOf a) (nameOf b) ≡ nameOf (both a b)
+name-both untouched b = refl
+name-both (fetch c) untouched = refl
+name-both (fetch c) (fetch d) = refl
+name-both (fetch c) write = refl
+name-both write b = refl
 
 reads-both : {a b : Mode} → Reads a → Reads b → Reads (both a b)
 reads-both untreated r = r
@@ -63,31 +64,17 @@ reads-both fetched untreated = fetched
 reads-both fetched fetched = fetched
 
 module _ (s : Settings) where
-  request-untouched : (u : ℕ) (m : State) (t : Turn) → naming s m t u ≡ unnamed → unitMode s m t u ≡ untouched
-  request-untouched u m t = go (recordFound m t)
+  request-name : (u : ℕ) (m : State) (t : Turn) → naming s m t u ≡ nameOf (unitMode s m t u)
+  request-name u m t = go (recordFound m t)
     where
-      go : (f : Option Processor) → cond (namedBy f s u m t) (cond (isFetch (t .request)) fetching otherwise) unnamed ≡ unnamed
-          → unitModeBy f s m t u ≡ untouched
-      go none e = refl
-      go (some p) e = unnamed-untouched (namedBy (some p) s u m t) (isFetch (t .request)) (isClear (verdictOf s m t p)) e
+      go : (f : Option Processor) → cond (namedBy f s u m t) (cond (isFetch (t .request)) fetching otherwise) unnamed ≡ nameOf (unitModeBy f s m t u)
+      go none = refl
+      go (some p) = named-mode (namedBy (some p) s u m t) (isFetch (t .request)) (isClear (verdictOf s m t p))
 
-  request-reads : (u : ℕ) (m : State) (t : Turn) → naming s m t u ≢ otherwise → Reads (unitMode s m t u)
-  request-reads u m t = go (recordFound m t)
-    where
-      go : (f : Option Processor) → cond (namedBy f s u m t) (cond (isFetch (t .request)) fetching otherwise) unnamed ≢ otherwise
-          → Reads (unitModeBy f s m t u)
-      go none h = untreated
-      go (some p) h = fetching-reads (namedBy (some p) s u m t) (isFetch (t .request)) (isClear (verdictOf s m t p)) h
-
-  action-untouched : (u : ℕ) (m : State) (x : Action) → actionNames s m x u ≡ unnamed → actionMode s m x (key u) ≡ untouched
-  action-untouched u m (request t) e = request-untouched u m t e
-  action-untouched u m look e = refl
-  action-untouched u m (reach r) e = unnamed-untouched (reaches s r u) (fetches r) (not (barred s (m .keys) r) && ltb u (length (m .keys))) e
-
-  action-reads : (u : ℕ) (m : State) (x : Action) → actionNames s m x u ≢ otherwise → Reads (actionMode s m x (key u))
-  action-reads u m (request t) h = request-reads u m t h
-  action-reads u m look h = untreated
-  action-reads u m (reach r) h = fetching-reads (reaches s r u) (fetches r) (not (barred s (m .keys) r) && ltb u (length (m .keys))) h
+  action-name : (u : ℕ) (m : State) (x : Action) → actionNames s m x u ≡ nameOf (actionMode s m x (key u))
+  action-name u m (request t) = request-name u m t
+  action-name u m look = refl
+  action-name u m (reach r) = named-mode (reaches s r u) (fetches r) (not (barred s (m .keys) r) && ltb u (length (m .keys)))
 
   action-byte : (a : ℕ) (m : State) (x : Action) → actionMode s m x (byte a) ≡ actionMode s m x (key (unitOf s a))
   action-byte a m (request t) = refl
@@ -99,17 +86,11 @@ module _ (s : Settings) where
   action-lengths m look = fetched
   action-lengths m (reach r) = fetched
 
-  sequence-untouched : (u : ℕ) (m : State) (p : Steps) → sequenceNames s m p u ≡ unnamed → sequenceMode s m p (key u) ≡ untouched
-  sequence-untouched u m (end w) e = refl
-  sequence-untouched u m (act x further) e =
-      let (f, g) = together-unnamed (actionNames s m x u) (sequenceNames s (after s m x) (further (gives s m x)) u) e in
-      rw (action-untouched u m x f) (sequence-untouched u (after s m x) (further (gives s m x)) g)
-
-  sequence-reads : (u : ℕ) (m : State) (p : Steps) → sequenceNames s m p u ≢ otherwise → Reads (sequenceMode s m p (key u))
-  sequence-reads u m (end w) h = untreated
-  sequence-reads u m (act x further) h =
-      let (f, g) = together-fetches (actionNames s m x u) (sequenceNames s (after s m x) (further (gives s m x)) u) h in
-      reads-both (action-reads u m x f) (sequence-reads u (after s m x) (further (gives s m x)) g)
+  sequence-name : (u : ℕ) (m : State) (p : Steps) → sequenceNames s m p u ≡ nameOf (sequenceMode s m p (key u))
+  sequence-name u m (end w) = refl
+  sequence-name u m (act x further) =
+      rw (action-name u m x, sequence-name u (after s m x) (further (gives s m x)))
+      (name-both (actionMode s m x (key u)) (sequenceMode s (after s m x) (further (gives s m x)) (key u)))
 
   sequence-byte : (a : ℕ) (m : State) (p : Steps) → sequenceMode s m p (byte a) ≡ sequenceMode s m p (key (unitOf s a))
   sequence-byte a m (end w) = refl
@@ -119,13 +100,19 @@ module _ (s : Settings) where
   sequence-lengths m (end w) = untreated
   sequence-lengths m (act x further) = reads-both (action-lengths m x) (sequence-lengths (after s m x) (further (gives s m x)))
 
-  -- a turn
+  turn-name : (m : State) (w : Work) (u : ℕ) → turnNames s m w u ≡ nameOf (workMode s m w (key u))
+  turn-name m w u = sym (turn-names s m w u) ∙ sequence-name u m (stepsOf s w)
+
+  -- turns that treat the units alike name them alike
+  pub same-names : (m n : State) (v w : Work) (u : ℕ) → workMode s m v (key u) ≡ workMode s n w (key u) → turnNames s m v u ≡ turnNames s n w u
+  same-names m n v w u e = turn-name m v u ∙ ap nameOf e ∙ sym (turn-name n w u)
+
   module _ (m : State) (w : Work) where
     pub unnamed-unit : (u : ℕ) → turnNames s m w u ≡ unnamed → workMode s m w (key u) ≡ untouched
-    unnamed-unit u e = sequence-untouched u m (stepsOf s w) (rw (turn-names s m w u) e)
+    unnamed-unit u e = name-untouched (workMode s m w (key u)) (sym (turn-name m w u) ∙ e)
 
     pub fetched-unit : (u : ℕ) → turnNames s m w u ≢ otherwise → Reads (workMode s m w (key u))
-    fetched-unit u h = sequence-reads u m (stepsOf s w) (rw (turn-names s m w u) h)
+    fetched-unit u h = name-reads (workMode s m w (key u)) (λ e. h (turn-name m w u ∙ e))
 
     pub byte-of-unit : (a : ℕ) → workMode s m w (byte a) ≡ workMode s m w (key (unitOf s a))
     byte-of-unit a = sequence-byte a m (stepsOf s w)

@@ -128,6 +128,19 @@ module _ {S W I U : Type 0} {P : U → Type 0} (r : Parties S W I) {mode : S →
         go (yes e) = rw e
         go (no n) = commuting m i j n (apart i j n 0 0)
 
+  -- so after any order of turns a step of j treats the parts as some step of j alone from m does
+  as-alone : (m : Joint S W I) → Pairwise r mode m → (o : List I) (j : I)
+      → (k : ℕ) × ((u : U) → modeOf mode (run r m o) j u ≡ modeOf mode (alone r m j k) j u)
+  as-alone m apart [] j = (0, λ u. refl)
+  as-alone m apart (i ∷ o) j =
+      let (k, e) = as-alone (turn r m i) (stays m apart i) o j in
+      let (l, f) = as-before m apart i j k in
+      (l, λ u. e u ∙ f u)
+
+  pub modes-as-alone : (m : Joint S W I) → Apart r mode m → (o : List I) (j : I)
+      → (k : ℕ) × ((u : U) → modeOf mode (run r m o) j u ≡ modeOf mode (alone r m j k) j u)
+  modes-as-alone m apart = as-alone m (pairwise r mode m apart)
+
   -- a turn before an order of turns, or after it
   delay : (m : Joint S W I) → Pairwise r mode m → (i : I) (o : List I) → run r (turn r m i) o ≡ turn r (run r m o) i
   delay m apart i [] = refl

@@ -19,16 +19,16 @@ use Rattle.machine.specs.Numbers.{unitOf}
 use Rattle.machine.specs.Channel.{begun}
 use Rattle.machine.specs.Turns.{State, Turn}
 use Rattle.machine.proofs.Verdicts.{tested}
-use Rattle.turns.specs.Parties.{Joint, alone}
+use Rattle.turns.specs.Parties.{Joint, alone, run}
 use Rattle.turns.specs.ThreeLists.{ChannelTurn, ChannelGiven, Work, requests, between, underWay, stepped, goesOn, workThen, Party, processor0}
 use Rattle.turns.specs.ThreeLists.{processor1, channel}
-use Rattle.turns.specs.ThreeLists.{parties, start, Carry, Apart, Whole, AnyOrder, turnsAtMost, oneAfterAnother, OneAfterAnother}
+use Rattle.turns.specs.ThreeLists.{turnNames, parties, start, Carry, namedAt, Apart, Whole, AnyOrder, turnsAtMost, oneAfterAnother, OneAfterAnother}
 use Rattle.turns.proofs.Actions.{untouched}
 use Rattle.turns.proofs.Parties as Law
 use Rattle.turns.proofs.Wholes.{each-work, turnsOf, turns-append, turns-replicate, enough-turns, whole-orders}
 use Rattle.turns.proofs.Parts.{Part, byte, key, processor, lengths}
 use Rattle.turns.proofs.ChannelSteps.{workMode, channel-no-record, turn-laws}
-use Rattle.turns.proofs.NamedModes.{unnamed-unit, fetched-unit, byte-of-unit, lengths-read}
+use Rattle.turns.proofs.NamedModes.{same-names, unnamed-unit, fetched-unit, byte-of-unit, lengths-read}
 use Rattle.turns.proofs.Endings.{turnsLeft, ending}
 
 -- a request of processor j's list does not treat another processor's record
@@ -141,6 +141,14 @@ module _ (s : Settings) where
 pub any-order : AnyOrder
 any-order s m xs ys zs firsts seconds apart =
     whole-orders (parties s) (ending s) (turn-laws s) (start m xs ys zs) (parts-apart s m xs ys zs firsts seconds apart)
+
+-- where the lists are apart, a turn names in any run what some turn of its list names where the list runs alone
+pub names-as-alone : (s : Settings) (m : State) (xs ys : List Turn) (zs : List ChannelTurn) → Carry 0 xs → Carry 1 ys → Apart s (start m xs ys zs)
+    → (o : List Party) (j : Party) → let n = run (parties s) (start m xs ys zs) o in
+    (k : ℕ) × ((u : ℕ) → turnNames s (n .shared) (n .own j) u ≡ namedAt s (start m xs ys zs) j k u)
+names-as-alone s m xs ys zs firsts seconds apart o j =
+    let (k, e) = Law.modes-as-alone (parties s) (turn-laws s) (start m xs ys zs) (parts-apart s m xs ys zs firsts seconds apart) o j in
+    (k, λ u. same-names s _ _ (run (parties s) (start m xs ys zs) o .own j) (alone (parties s) (start m xs ys zs) j k .own j) u (e (key u)))
 
 -- the lists run whole one after another, from any start
 pub one-after-another-is-whole : (s : Settings) (m : State) (xs ys : List Turn) (zs : List ChannelTurn)

@@ -4,8 +4,8 @@
 #include <stdio.h>
 #include <string.h>
 
-#if STORAGE_UNIT_VERSION < 300
-#error "the preprocessor does not read STORAGE_UNIT_VERSION as 300 or more"
+#if STORAGE_UNIT_VERSION < 400
+#error "the preprocessor does not read STORAGE_UNIT_VERSION as 400 or more"
 #endif
 
 #define STORAGE_LENGTH 8192u

@@ -6,15 +6,18 @@
  * one of the six key instructions, SET PREFIX or STORE PREFIX) and gives one answer.
  * storage_unit_fetch and storage_unit_store do the same for a fetch and a store, in less time.
  * storage_unit_play takes a recording, which holds many requests, and writes a line for each.
+ * storage_unit_channel runs a channel program, which moves bytes between storage and a device under
+ * the same keys, and storage_unit_channel_step one CCW of it.
  *
  * The last part of this header serves most programs: struct storage_unit_machine, which holds what
- * is lent, and a function for each of the ten operations, its operands under their own names, and
- * one that plays a recording.
+ * is lent, and a function for each of the ten operations, its operands under their own names, one
+ * that plays a recording, and two for channel programs.
  *
  * The functions are in the static library libstorage_unit.a, for x86-64 Linux, which needs memcpy,
  * memmove and memset from the C library and nothing else. What a call answers and leaves is proved;
  * it is defined in the repository, in crates/boundary/specs/Boundary.antt,
- * crates/host_access/specs/ShortWay.antt and crates/host_player/specs/Playing.antt.
+ * crates/host_access/specs/ShortWay.antt, crates/host_player/specs/Playing.antt and
+ * crates/host_channel/specs/ChannelCalls.antt.
  *
  * "Bit 0" of a register is the leftmost of 32, as in the manual, GA22-7000. The constants below are
  * plain values, to be used with & and |.
@@ -32,9 +35,9 @@ extern "C" {
 /* ---- The version: 10000 x major + 100 x minor + patch, to be used with #if too. */
 
 #define STORAGE_UNIT_VERSION_MAJOR 0u
-#define STORAGE_UNIT_VERSION_MINOR 3u
+#define STORAGE_UNIT_VERSION_MINOR 4u
 #define STORAGE_UNIT_VERSION_PATCH 0u
-#define STORAGE_UNIT_VERSION_TEXT  "0.3.0"
+#define STORAGE_UNIT_VERSION_TEXT  "0.4.0"
 
 #define STORAGE_UNIT_VERSION \
     (10000u * STORAGE_UNIT_VERSION_MAJOR + 100u * STORAGE_UNIT_VERSION_MINOR \
@@ -200,6 +203,74 @@ struct storage_unit_player {
 #define STORAGE_UNIT_PLAYER_LENGTH 48u
 
 /*
+ * ---- Channel programs.
+ *
+ * A channel moves bytes between storage and a device. It has a key from 0 to 15, under which the
+ * storage keys permit or forbid what they do under a PSW key. Its addresses are absolute: there is
+ * no prefix, no low-address protection, and no processor's record is looked at. A program is a row
+ * of channel command words (CCWs) in storage, each of 8 bytes at a multiple of 8; numbers have the
+ * most significant byte first:
+ *
+ * byte 0        the command: the low bits 01 write to the device, 10 read from it, and the low four
+ *               bits 1000 are a transfer in channel: the next CCW is that at its address, and its
+ *               flags and count are ignored. The first CCW, and one that a transfer in channel
+ *               names, must be none.
+ * bytes 1 to 3  the address
+ * byte 4        flags: hex 40, chain command, goes on with the CCW behind this one; else 0, and the
+ *               program ends with it
+ * byte 5        ignored
+ * bytes 6, 7    the count of bytes, not 0
+ *
+ * The device is two buffers: the bytes that come from it, which the CCWs that read take one after
+ * another from the first on, and room for those that go to it, which is filled from its first byte
+ * on. CCWs are fetched one by one, each when its turn comes.
+ *
+ * The answer of a program has one of these numbers, or STORAGE_UNIT_NUMBER_COMPLETED where it ended
+ * well; its place, word and rule are 0. For each CCW the lines are tested in this order: 74; 71 for
+ * its address; 72 for its fetching; 71 for what it is; 71 for the range of its data; 73; 72 for its
+ * data. A CCW that is refused moves nothing and changes no key but that of its own unit, if it was
+ * fetched; what the CCWs before it did stands.
+ */
+#define STORAGE_UNIT_NUMBER_PROGRAM    71u /* a bad CCW, a bad address, or data outside storage */
+#define STORAGE_UNIT_NUMBER_FORBIDDEN  72u /* a key forbids the fetching of a CCW, or its data */
+#define STORAGE_UNIT_NUMBER_DEVICE     73u /* too few bytes from the device, or too little room */
+#define STORAGE_UNIT_NUMBER_GRANT_USED 74u /* the granted number of CCWs is used up */
+#define STORAGE_UNIT_NUMBER_UNDER_WAY  255u /* no answer: the program is under way */
+
+#define STORAGE_UNIT_CCW_LENGTH        8u
+#define STORAGE_UNIT_CCW_WRITE         0x01u /* commands: storage to device */
+#define STORAGE_UNIT_CCW_READ          0x02u /* device to storage */
+#define STORAGE_UNIT_CCW_TRANSFER      0x08u /* transfer in channel */
+#define STORAGE_UNIT_CCW_CHAIN_COMMAND 0x40u /* the flag */
+#define STORAGE_UNIT_CCW_COUNT_MAXIMUM 65535u
+
+#define STORAGE_UNIT_CHANNEL_KEY_MAXIMUM 15u
+#define STORAGE_UNIT_GRANT_MAXIMUM       256u
+
+/* How far a program has come: 32 bytes, zeros before it is begun. */
+struct storage_unit_progress {
+    uint32_t address;    /* of the CCW to come; after the last, that behind it */
+    uint8_t chaining;    /* how control comes to it, STORAGE_UNIT_CHAINING_... */
+    uint8_t status;      /* STORAGE_UNIT_PROGRESS_..., else the number of the refusal */
+    uint8_t zeros[2];
+    uint32_t fetched;    /* how many CCWs were fetched, transfers in channel included */
+    uint8_t more_zeros[4];
+    uint64_t taken;      /* how many bytes were taken from the device */
+    uint64_t given;      /* how many bytes were given to it */
+};
+
+#define STORAGE_UNIT_PROGRESS_LENGTH 32u
+
+#define STORAGE_UNIT_PROGRESS_NOT_BEGUN 0u
+#define STORAGE_UNIT_PROGRESS_UNDER_WAY 1u
+#define STORAGE_UNIT_PROGRESS_ENDED     2u /* the program ended well */
+
+#define STORAGE_UNIT_CHAINING_FIRST    0u /* it is the first */
+#define STORAGE_UNIT_CHAINING_COMMAND  1u /* by chain command */
+#define STORAGE_UNIT_CHAINING_TRANSFER 2u /* by a transfer in channel */
+#define STORAGE_UNIT_CHAINING_ENDED    3u /* there is none: the program ended */
+
+/*
  * ---- What a call never writes. "Never" is proved for all numbers and bytes: after the call each
  * such byte has the value that it had before.
  *
@@ -223,8 +294,14 @@ struct storage_unit_player {
  * player also the four numbers behind the records; of the output the first `written` bytes and
  * never those behind them; the piece never. Refused, it writes nothing at all.
  *
+ * storage_unit_channel and storage_unit_channel_step write of storage the bytes that completed CCWs
+ * read into it, of the keys those of the units of fetched CCWs and of completed data, of the room
+ * the bytes that completed CCWs give, and of the progress every byte; the bytes from the device
+ * never. Where the settings or the progress are wrong, they write nothing at all.
+ *
  * Bytes behind a pointer to const are only read, and may be in read-only memory: the storage of
- * storage_unit_fetch, the bytes of storage_unit_store, the piece of storage_unit_play. Other memory
+ * storage_unit_fetch, the bytes of storage_unit_store, the piece of storage_unit_play, the bytes
+ * from the device of a channel. Other memory
  * that is lent must be writable: an instruction puts a condition code into its record also where it
  * stays the same.
  */
@@ -342,6 +419,47 @@ uint32_t storage_unit_play(uint32_t settings,
                            const uint8_t *piece, size_t piece_length,
                            uint32_t last,
                            uint8_t *output, size_t output_length);
+
+/*
+ * storage_unit_channel: a whole channel program.
+ *
+ * settings       As for storage_unit_request. Another bit: 64, before all else.
+ * storage, keys  As for storage_unit_request. A wrong length: 64.
+ * key            The channel's key, 0 to 15. A greater number: 65.
+ * first          The address of the first CCW. Any number: a wrong one is 71.
+ * grant          How many CCWs may be fetched, 1 to 256. Another number: 66.
+ * from           The bytes from the device, as many as there are. They are only read.
+ * room           The room for bytes to the device. Bytes behind those given stay as they are.
+ * progress       A struct storage_unit_progress, by its bytes: 32. Another length: 65, and nothing
+ *                changes. Whatever it holds, the program runs from its start; at its end the call
+ *                leaves there how far it came, with the number of CCWs fetched.
+ *
+ * Returns the answer in one value, for storage_unit_number to take apart. The caller must see to
+ * what is said at storage_unit_request, for these ranges of bytes.
+ *
+ * storage_unit_channel_step: one step of a program, which is one CCW, with the same operands at
+ * each. Give it a progress of zeros at first and then as the step before left it. Between two steps
+ * processors may make requests. While the program is under way, the number is
+ * STORAGE_UNIT_NUMBER_UNDER_WAY. A step of a program that has its answer changes nothing and gives
+ * the answer again. A program takes a step for each CCW that it fetches, and one more where the last
+ * step fetches none. A progress that no step leaves (another length, a chaining over 3, another
+ * status, a byte that must be zero): 65 where the lengths are good, and nothing changes.
+ */
+uint64_t storage_unit_channel(uint32_t settings,
+                              uint8_t *storage, size_t storage_length,
+                              uint8_t *keys, size_t keys_length,
+                              uint32_t key, uint32_t first, uint32_t grant,
+                              const uint8_t *from, size_t from_length,
+                              uint8_t *room, size_t room_length,
+                              uint8_t *progress, size_t progress_length);
+
+uint64_t storage_unit_channel_step(uint32_t settings,
+                                   uint8_t *storage, size_t storage_length,
+                                   uint8_t *keys, size_t keys_length,
+                                   uint32_t key, uint32_t first, uint32_t grant,
+                                   const uint8_t *from, size_t from_length,
+                                   uint8_t *room, size_t room_length,
+                                   uint8_t *progress, size_t progress_length);
 
 /* The number of an answer: one of STORAGE_UNIT_NUMBER_... */
 static inline uint32_t storage_unit_number(uint64_t answer)
@@ -658,6 +776,59 @@ static inline uint32_t storage_unit_play_piece(const struct storage_unit_machine
                                output, output_length);
     storage_unit_copy_records(machine->records, player->records);
     return result;
+}
+
+/* Writes a CCW: command, address, flags (STORAGE_UNIT_CCW_CHAIN_COMMAND or 0), count. */
+static inline void storage_unit_put_ccw(uint8_t *ccw, uint8_t command, uint32_t address,
+                                        uint8_t flags, uint16_t count)
+{
+    ccw[0] = command;
+    ccw[1] = (uint8_t)(address >> 16);
+    ccw[2] = (uint8_t)(address >> 8);
+    ccw[3] = (uint8_t)address;
+    ccw[4] = flags;
+    ccw[5] = 0;
+    ccw[6] = (uint8_t)(count >> 8);
+    ccw[7] = (uint8_t)count;
+}
+
+/* A channel program: its operands, and the two buffers of the device. */
+struct storage_unit_program {
+    uint32_t key;
+    uint32_t first;
+    uint32_t grant;
+    const uint8_t *from;
+    size_t from_length;
+    uint8_t *room;
+    size_t room_length;
+};
+
+/* Runs a channel program on the machine, as storage_unit_channel does. */
+static inline uint64_t storage_unit_run_program(const struct storage_unit_machine *machine,
+                                                const struct storage_unit_program *program,
+                                                struct storage_unit_progress *progress)
+{
+    return storage_unit_channel(machine->settings,
+                                machine->storage, machine->storage_length,
+                                machine->keys, machine->keys_length,
+                                program->key, program->first, program->grant,
+                                program->from, program->from_length,
+                                program->room, program->room_length,
+                                (uint8_t *)progress, sizeof *progress);
+}
+
+/* Does one CCW of a channel program on the machine, as storage_unit_channel_step does. */
+static inline uint64_t storage_unit_step_program(const struct storage_unit_machine *machine,
+                                                 const struct storage_unit_program *program,
+                                                 struct storage_unit_progress *progress)
+{
+    return storage_unit_channel_step(machine->settings,
+                                     machine->storage, machine->storage_length,
+                                     machine->keys, machine->keys_length,
+                                     program->key, program->first, program->grant,
+                                     program->from, program->from_length,
+                                     program->room, program->room_length,
+                                     (uint8_t *)progress, sizeof *progress);
 }
 
 #ifdef __cplusplus

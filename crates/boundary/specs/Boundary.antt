@@ -23,9 +23,9 @@ use Rattle.machine.specs.Step.{Outcome, step}
 use Rattle.machine.specs.Pair.{withoutRecord}
 use Rattle.machine.specs.Conditions.{numbers, isIn}
 
--- the version, 0.3.0: 10000 x major + 100 x minor + patch
+-- the version, 0.4.0: 10000 x major + 100 x minor + patch
 abbrev pub versionNumber : ℕ
-versionNumber = 300
+versionNumber = 400
 
 -- a bit with the value v in a number
 abbrev pub bit : ℕ → ℕ → Bool

@@ -21,7 +21,7 @@ ghost use Rattle.boundary.specs.Boundary.{versionNumber, Packs, callOutcome, ca
 pub extern "C" fn storage_unit_version() -> u32
     ensures { λ r. ⌜ r ≡ versionNumber ⌝ }
 {
-    300
+    400
 }
 
 // The answer where line 64 refuses the lengths, where there is no record, or where line 65 refuses it.

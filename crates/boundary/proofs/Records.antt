@@ -3,7 +3,7 @@
 use Prim.Native.Nat.{ℕ, zero, suc, _+_, _*_, _/_, _%_, _<_, _≤_}
 use mathlib.Core.Path.{_≡_, refl, sym, ap, _∙_}
 use mathlib.Core.Bool.{Bool, true, false, cond}
-use mathlib.Core.List.{List, [], _∷_}
+use mathlib.Core.List.{List}
 use native.Mathlib.Omega.{arith}
 use native.Mathlib.Nat.{add-zero, zero-add}
 use lib.ListN.{length, getD}
@@ -14,7 +14,7 @@ use Rattle.machine.specs.Lists.{written}
 use Rattle.machine.specs.Numbers.{recordValid}
 use Rattle.machine.proofs.Written.{written-there}
 use Rattle.machine.proofs.Verdicts.{both}
-use Rattle.boundary.specs.Boundary.{bit, value, reservedZero, recordAt, prefixBytes, recordBytes}
+use Rattle.boundary.specs.Boundary.{bit, value, reservedZero, recordAt, recordBytes}
 
 -- the bytes from `at` on are those of p
 abbrev pub Holds : List ℕ → ℕ → Processor → Type 0

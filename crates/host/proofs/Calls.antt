@@ -1,5 +1,5 @@
--- A call by what the storage unit serves: completed, refused, or without a record. A completed request had a record that line 65 lets pass, so
--- its bytes are known, and what is written over them is the record that the step leaves. Assumes nothing.
+-- A call by what the storage unit serves: completed, refused, without a record, or past the last operation. A completed request had a record that
+-- line 65 lets pass, so its bytes are known, and what is written over them is the record that the step leaves. Assumes nothing.
 use Prim.Native.Nat.{ℕ, _+_, _<_, _≤_}
 use mathlib.Core.Path.{_≡_, refl, sym, ap, subst, _∙_}
 use mathlib.Core.Bool.{Bool, true, false, not, _&&_}

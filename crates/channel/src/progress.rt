@@ -81,6 +81,7 @@ pub(crate) fn transfer_in_channel(progress: ChannelProgress, address: u32) -> Ch
     if !transfer_allowed(chaining) {
         return refused(progress, ChannelReason::Program);
     }
+    let fetched = progress.fetched;
     ChannelProgress {
         state: ChannelRecord {
             ccw: address,
@@ -88,7 +89,7 @@ pub(crate) fn transfer_in_channel(progress: ChannelProgress, address: u32) -> Ch
             taken: state.taken,
             given: state.given,
         },
-        fetched: progress.fetched,
+        fetched,
         standing: Standing::UnderWay,
     }
 }

@@ -25,12 +25,12 @@ pub(crate) fn range_forbidden(
     let allowed = permissions(kind, access_key);
     let first = unit_of(settings, start);
     let last = unit_of(settings, start + (count - 1));
-    let mut i = 0;
-    while first + i <= last {
-        if !permits(allowed, keys[first + i]) {
+    let mut passed = 0;
+    while first + passed <= last {
+        if !permits(allowed, keys[first + passed]) {
             return true;
         }
-        i += 1;
+        passed += 1;
     }
     false
 }
@@ -48,10 +48,10 @@ pub(crate) fn record_range(
 {
     let first = unit_of(settings, start);
     let last = unit_of(settings, start + (count - 1));
-    let mut i = 0;
-    while first + i <= last {
-        let key = keys[first + i];
-        keys[first + i] = recorded(kind, key);
-        i += 1;
+    let mut done = 0;
+    while first + done <= last {
+        let key = keys[first + done];
+        keys[first + done] = recorded(kind, key);
+        done += 1;
     }
 }

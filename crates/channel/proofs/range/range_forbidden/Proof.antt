@@ -12,12 +12,12 @@ use Rattle.channel.proofs.range.range_forbidden.Statement.{statement}
 use Rattle.channel.proofs.range.range_forbidden.Tie as tie
 
 abbrev Inv-loop : tie.InvT-loop
-Inv-loop access-key keys start count allowed first last i₀ i =
-    (first + i ≤ last + 1) × (unitsForbid allowed keys first i ≡ false)
+Inv-loop access-key keys start count allowed first last passed₀ passed =
+    (first + passed ≤ last + 1) × (unitsForbid allowed keys first passed ≡ false)
 
 abbrev μ-loop : tie.MeasureT-loop
-μ-loop access-key keys start count allowed first last i₀ i =
-    last + 1 - (first + i)
+μ-loop access-key keys start count allowed first last passed₀ passed =
+    last + 1 - (first + passed)
 
 permissions-requires : tie.Need-permissions-requires Inv-loop μ-loop
 permissions-requires c κs = search needs
@@ -66,8 +66,8 @@ returns c =
     (told .before .before .loop-test .taken) (told .permits .ensures)
     (not-true _ (c .if1 .taken))
 
-add-i : tie.Need-add-i Inv-loop μ-loop
-add-i c = search needs
+add-passed : tie.Need-add-passed Inv-loop μ-loop
+add-passed c = search needs
 
 loop-less : tie.Need-loop-less Inv-loop μ-loop
 loop-less c = search needs
@@ -106,7 +106,7 @@ range-forbidden-spec =
     shared-slice-read-permits
     permits-requires
     returns
-    add-i
+    add-passed
     loop-less
     loop-again
     returns-2)

@@ -13,12 +13,12 @@ use Rattle.channel.proofs.range.record_range.Statement.{statement}
 use Rattle.channel.proofs.range.record_range.Tie as tie
 
 abbrev Inv-loop : tie.InvT-loop
-Inv-loop kind keys₀ start count first last i₀ keys i =
-    (first + i ≤ last + 1) × (keys ≡ marked keys₀ (recorded kind) (λ k. first + k) i)
+Inv-loop kind keys₀ start count first last done₀ keys done =
+    (first + done ≤ last + 1) × (keys ≡ marked keys₀ (recorded kind) (λ k. first + k) done)
 
 abbrev μ-loop : tie.MeasureT-loop
-μ-loop kind keys₀ start count first last i₀ keys i =
-    last + 1 - (first + i)
+μ-loop kind keys₀ start count first last done₀ keys done =
+    last + 1 - (first + done)
 
 unit-of-requires : tie.Need-unit-of-requires Inv-loop μ-loop
 unit-of-requires c κs = search needs
@@ -57,8 +57,8 @@ add-keys c = search needs
 slice-write-keys : tie.Need-slice-write-keys Inv-loop μ-loop
 slice-write-keys c = omega (arith, kept-length _ _ _ _ _ (c .before .before .before .loop .inv .1))
 
-add-i : tie.Need-add-i Inv-loop μ-loop
-add-i c = search needs
+add-done : tie.Need-add-done Inv-loop μ-loop
+add-done c = search needs
 
 loop-less : tie.Need-loop-less Inv-loop μ-loop
 loop-less c = search needs
@@ -97,7 +97,7 @@ record-range-spec =
     recorded-requires
     add-keys
     slice-write-keys
-    add-i
+    add-done
     loop-less
     loop-again
     same-length

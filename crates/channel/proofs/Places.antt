@@ -1,5 +1,5 @@
--- Two runs of places that reach the same: a test of each place, and a mark in each place that is reached, come out the same. The one is found
--- for the other, place by place.
+-- Two runs of places that reach the same: a test of each place, and a mark in each place that is reached, come out the same. The units of a
+-- range one after another reach what the units of its bytes do: each unit has a byte of the range, which is the first of the unit or of the range.
 -- Assumes nothing.
 use Prim.Native.Nat.{ℕ, _+_, _-_, _*_, _/_, _%_, _<_, _≤_}
 use mathlib.Core.Path.{_≡_, refl, sym, _∙_}

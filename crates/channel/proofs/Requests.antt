@@ -10,21 +10,20 @@ use Rattle.machine.specs.declared.AccessKind.{AccessKind}
 use Rattle.machine.specs.declared.channel.ChannelRequest.{ChannelRequest}
 use Rattle.machine.specs.declared.channel.ChannelOperation.{ChannelOperation}
 use Rattle.machine.specs.declared.channel.ChannelOperation.the-variants.{Data}
-use Rattle.machine.specs.Numbers.{unitSize, unitOf}
+use Rattle.machine.specs.Numbers.{storageMaximum, storageValid, unitSize, unitOf}
 use Rattle.machine.proofs.Verdicts.{both, neither}
 use Rattle.machine.proofs.Units.{unit-inside}
 use Rattle.channel.specs.Ranges.{Keyed}
 use Rattle.channel.specs.Requests.{Passed, DataFits, Counted}
 
 module _ {s : Settings} {storageLength keyLength : ℕ} {q : ChannelRequest} (passed : Passed s storageLength keyLength q) where
-  storage-valid : (eqb (storageLength % 4096) 0 && leb 4096 storageLength && leb storageLength 16777216 ≡ true)
-      × (eqb keyLength (storageLength / unitSize s) ≡ true)
+  storage-valid : (storageValid storageLength ≡ true) × (eqb keyLength (storageLength / unitSize s) ≡ true)
   storage-valid = both _ _ (passed .lengths)
 
   pub whole-blocks : storageLength % 4096 ≡ 0
   whole-blocks = eqb-true _ _ (both _ _ (both _ _ (storage-valid .0) .0) .0)
 
-  pub greatest : storageLength ≤ 16777216
+  pub greatest : storageLength ≤ storageMaximum
   greatest = leb-true _ _ (both (eqb (storageLength % 4096) 0 && leb 4096 storageLength) _ (storage-valid .0) .1)
 
   pub key-inside : (a : ℕ) → a < storageLength → unitOf s a < keyLength

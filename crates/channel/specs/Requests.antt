@@ -19,7 +19,7 @@ use Rattle.machine.specs.declared.channel.ChannelReply.{ChannelReply}
 use Rattle.machine.specs.declared.channel.Standing.{Standing}
 use Rattle.machine.specs.declared.channel.Standing.the-variants.{UnderWay, Answered}
 use Rattle.machine.specs.declared.channel.ChannelProgress.{ChannelProgress}
-use Rattle.machine.specs.Numbers.{lengthsValid}
+use Rattle.machine.specs.Numbers.{storageMaximum, lengthsValid}
 use Rattle.machine.specs.Channel.{Channel, standingAs, transferAllowed, transferred, steps, ChannelOutcome, outcomeIn}
 use Rattle.channel.specs.Ranges.{Keyed}
 
@@ -36,12 +36,12 @@ Counted (TransferInChannel address) = Unit {0}
 Counted (Data kind address count chains) = (0 < count) × (count < 65536)
 Counted Invalid = Unit {0}
 
--- the data of a CCW that lies inside storage fits storage, and the device from a position on
+-- the data of a CCW fits storage, its keys are there, and it fits the device from a position on; the CCW is inside storage itself
 pub record DataFits (s : Settings) (storageLength keyLength ccw address count deviceLength position : ℕ) : Type 0 where
   pub keyed : Keyed s keyLength address count
   pub counted : count < 65536
   pub inside : address + count ≤ storageLength
-  pub ccw-inside : ccw + 8 ≤ 16777216
+  pub ccw-inside : ccw + 8 ≤ storageMaximum
   pub device : position + count ≤ deviceLength
 
 -- one CCW more was fetched

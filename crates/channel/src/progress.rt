@@ -101,7 +101,7 @@ pub(crate) fn after_data(
     taken: usize,
     given: usize,
 ) -> ChannelProgress
-    requires { ⌜ (progress .state .ccw < 16777216) × (progress .state .taken + taken < 18446744073709551616)
+    requires { ⌜ (progress .state .ccw + 8 < 4294967296) × (progress .state .taken + taken < 18446744073709551616)
         × (progress .state .given + given < 18446744073709551616) ⌝ }
     ensures { λ r. ⌜ r ≡ afterData chains taken given progress ⌝ }
 {

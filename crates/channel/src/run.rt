@@ -1,5 +1,5 @@
-// The run of a channel program whose request passed its own lines: CCW after CCW, each chained command or transfer in channel being a call. The
-// part of the grant that is left falls at each.
+// The run of a channel program whose request passed its own lines, by two functions that call each other for the next CCW. The part of the
+// grant that is left falls at each call.
 use crate::program::next_ccw;
 use machine::Settings;
 use machine::channel::Chaining;
@@ -25,7 +25,7 @@ pub(crate) fn reply(progress: ChannelProgress, answer: ChannelAnswer) -> Channel
     }
 }
 
-// The run from the CCW to come.
+// The run from the CCW to come: that CCW, and then the run from the next, by `follow_transfer` where a transfer in channel named it.
 pub(crate) fn execute(
     settings: Settings,
     storage: &mut [u8],
@@ -70,7 +70,7 @@ pub(crate) fn execute(
     }
 }
 
-// The run from a CCW that a transfer in channel named. No other transfer can follow it.
+// The run from a CCW that a transfer in channel named. It can be no other transfer in channel, and so the run from the next goes by `execute`.
 fn follow_transfer(
     settings: Settings,
     storage: &mut [u8],

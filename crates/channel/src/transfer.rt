@@ -17,7 +17,7 @@ ghost use lib.ListN.{length};
 ghost use Rattle.machine.specs.Channel.{channel, afterData, rangeRecorded, bytesMoved, obeyed};
 ghost use Rattle.channel.specs.Requests.{Passed, DataFits, deviceLeft};
 
-// How many of so many bytes of the device are left, where a number of them was used.
+// How many bytes of a buffer are left behind those that were used; none where the position lies behind its end.
 fn left(length: usize, used: usize) -> usize
     ensures { λ r. ⌜ r ≡ length - used ⌝ }
 {
@@ -27,7 +27,7 @@ fn left(length: usize, used: usize) -> usize
     length - used
 }
 
-// How many bytes the device has left for a CCW that fetches from storage, or for one that stores.
+// What the device has left for a CCW: room for one that fetches from storage, bytes for one that stores.
 fn device_left(
     state: ChannelRecord,
     kind: AccessKind,

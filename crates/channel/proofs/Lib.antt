@@ -4,5 +4,4 @@ pub mod Ranges
 pub mod Words
 pub mod Requests
 pub mod Ccws
-pub mod Runs
 pub mod Replies

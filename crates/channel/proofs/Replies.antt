@@ -3,7 +3,7 @@
 -- follow from the run.
 -- Assumes nothing.
 use Prim.Native.Nat.{ℕ, suc, _+_, _-_, _<_, _≤_}
-use mathlib.Core.Path.{_≡_, refl, sym, ap, _∙_}
+use mathlib.Core.Path.{_≡_, refl, sym, ap, subst, _∙_}
 use mathlib.Core.List.{List}
 use mathlib.Core.Option.{Option, none, some}
 use native.Mathlib.Omega.{arith}
@@ -22,10 +22,13 @@ use Rattle.machine.specs.declared.channel.Standing.the-variants.{UnderWay, Answ
 use Rattle.machine.specs.declared.channel.ChannelProgress.{ChannelProgress}
 use Rattle.machine.specs.Channel.{Channel, channel, standingAs, firstRefusal, requestLines, beforeFetching, nextCcw, channelStep}
 use Rattle.machine.specs.Channel.{begun, steps, ChannelOutcome, channelOutcome, channelRun, stepsThatFetch}
+use Rattle.machine.specs.Conditions.{ChannelCondition1}
 use Rattle.machine.proofs.Verdicts.{neither}
+use Rattle.machine.proofs.ChannelSteps.{channel-condition-1}
 use Rattle.channel.specs.Requests.{Passed, Going, standingBy, replyOf, runFrom}
-use Rattle.channel.proofs.Runs.{not-under-way, no-line, refused-before, refused-unfetched, step-under-way, step-answered, still-under-way}
-use Rattle.channel.proofs.Runs.{first-of-steps, answered-stays, steps-count, steps-within}
+use Rattle.machine.proofs.ChannelSteps.{no-line, step-under-way, step-answered}
+use Rattle.machine.proofs.ChannelRuns.{not-under-way, refused-before, refused-unfetched, still-under-way}
+use Rattle.machine.proofs.ChannelRuns.{first-of-steps, answered-stays, steps-count, steps-within}
 
 -- The lines of a request, by the standing that they give it.
 module _ (s : Settings) (storageLength keyLength : ℕ) (q : ChannelRequest) {standing : Standing}
@@ -68,7 +71,7 @@ module _ (s : Settings) (q : ChannelRequest) (fromDevice storage keys room : Lis
 
   -- A step.
   pub step-stays : {answer : ChannelAnswer} → g .standing ≡ Answered answer → found ≡ channelStep s q fromDevice found
-  step-stays stands = sym (step-answered s q fromDevice found stands)
+  step-stays stands = sym (step-answered s q fromDevice found _ stands)
 
   module _ (stands : g .standing ≡ UnderWay) where
     refused-by-lines : {line : Standing} {answer : ChannelAnswer}
@@ -171,3 +174,8 @@ module _ (s : Settings) (q : ChannelRequest) (fromDevice storage keys room : Lis
 -- a request is under way at its start
 pub begun-going : (q : ChannelRequest) {g : ChannelProgress} → g ≡ begun q → Going q g
 begun-going q begins = rw begins (record { standing = refl; within = omega arith })
+
+-- what is left by the rule meets condition 1
+pub conditions-met : (s : Settings) (q : ChannelRequest) (fromDevice : List ℕ) (before : Channel) {after : Channel}
+    → after ≡ channelStep s q fromDevice before → ChannelCondition1 s before after × (after ≡ channelStep s q fromDevice before)
+conditions-met s q fromDevice before e = (subst (ChannelCondition1 s before) (sym e) (channel-condition-1 s q fromDevice before), e)

@@ -23,6 +23,7 @@ use machine::channel::Standing;
 use table::numbers::lengths_valid;
 ghost use Prim.Native.Nat.{_+_, _≤_};
 ghost use mathlib.Core.Path.{_≡_};
+ghost use Rattle.machine.specs.Conditions.{ChannelCondition1};
 ghost use Rattle.machine.specs.Channel.{firstRefusal, requestLines, channel, channelStep, channelOutcome, channelRun, stepsThatFetch, begun};
 ghost use Rattle.channel.specs.Requests.{standingBy};
 
@@ -56,7 +57,8 @@ fn request_lines(
     Standing::UnderWay
 }
 
-// A step of a request: its next CCW; where it has answered, nothing.
+// A step of a request: its next CCW; where it has answered, nothing. A CCW that is refused changes nothing but the key of the unit from which
+// it was fetched, if it was (condition 1).
 pub fn channel_step(
     settings: Settings,
     storage: &mut [u8],
@@ -66,7 +68,9 @@ pub fn channel_step(
     from_device: &[u8],
     room: &mut [u8],
 ) -> ChannelProgress
-    ensures { λ r. ⌜ channel (now (storage .exit)) (now (keys .exit)) (now (room .exit)) r
+    ensures condition_1 { λ r. ⌜ ChannelCondition1 settings (channel (now (storage .entry)) (now (keys .entry)) (now (room .entry)) progress)
+        (channel (now (storage .exit)) (now (keys .exit)) (now (room .exit)) r) ⌝ }
+    ensures condition_2 { λ r. ⌜ channel (now (storage .exit)) (now (keys .exit)) (now (room .exit)) r
         ≡ channelStep settings request (now («from_device» .entry))
         (channel (now (storage .entry)) (now (keys .entry)) (now (room .entry)) progress) ⌝ }
 {
@@ -100,7 +104,7 @@ pub fn channel_request(
     from_device: &[u8],
     room: &mut [u8],
 ) -> ChannelReply
-    ensures run { λ r. ⌜ channelOutcome r (now (storage .exit)) (now (keys .exit)) (now (room .exit))
+    ensures condition_2 { λ r. ⌜ channelOutcome r (now (storage .exit)) (now (keys .exit)) (now (room .exit))
         ≡ channelRun settings (now (storage .entry)) (now (keys .entry)) request (now («from_device» .entry)) (now (room .entry)) ⌝ }
     ensures count_at_most_grant { λ r. ⌜ r .count ≤ request .grant ⌝ }
     ensures count_of_steps { λ r. ⌜ r .count ≡ stepsThatFetch (request .grant + 1) settings request (now («from_device» .entry))

@@ -70,12 +70,12 @@ module _ (s : Settings) (q : ChannelRequest) (fromDevice : List ℕ) (c : Channe
           rw (e, g) (second (beforeTransfer (length fromDevice) (withCcwFetched s c) (operationFound c)) refl
           (dataForbidden (operationFound c) s (q .key) (withCcwFetched s c .keys)) refl e g)
 
--- a line that lets a request pass, and the lines after it
-pub refusal-none : (b : Bool) (r : ChannelReason) (ls : List (Bool × ChannelReason)) → firstRefusal ((b, r) ∷ ls) ≡ none
-    → (b ≡ false) × (firstRefusal ls ≡ none)
+-- where no line refuses, the first does not, and none behind it
+pub no-line : (l : Bool × ChannelReason) (ls : List (Bool × ChannelReason)) → firstRefusal (l ∷ ls) ≡ none
+    → (l .0 ≡ false) × (firstRefusal ls ≡ none)
 unfolding firstRefusal
-refusal-none false r ls e = (refl, e)
-refusal-none true r ls e = (cc, cc)
+no-line (false, r) ls e = (refl, e)
+no-line (true, r) ls e = (cc, cc)
 
 -- the CCW to come where no line above the fetching stops it: lengths, key and grant are good, it is granted, and it is a multiple of 8 and inside
 pub record Fetchable (s : Settings) (q : ChannelRequest) (c : Channel) : Type 0 where
@@ -89,11 +89,11 @@ pub record Fetchable (s : Settings) (q : ChannelRequest) (c : Channel) : Type 0 
 pub fetchable : (s : Settings) (q : ChannelRequest) (c : Channel) → beforeFetching s q c ≡ none → Fetchable s q c
 unfolding beforeFetching
 fetchable s q c e =
-    let (a, e1) = refusal-none (not (lengthsValid s (length (c .storage)) (length (c .keys)))) _ _ e in
-    let (b, e2) = refusal-none (ltb 15 (q .key)) _ _ e1 in
-    let (d, e3) = refusal-none (eqb (q .grant) 0 || ltb 256 (q .grant)) _ _ e2 in
-    let (f, e4) = refusal-none (leb (q .grant) (c .progress .fetched)) _ _ e3 in
-    let (g, e5) = refusal-none (not (eqb (c .progress .state .ccw % 8) 0) || outside (length (c .storage)) (c .progress .state .ccw) 8) _ _ e4 in
+    let (a, e1) = no-line (not (lengthsValid s (length (c .storage)) (length (c .keys))), _) _ e in
+    let (b, e2) = no-line (ltb 15 (q .key), _) _ e1 in
+    let (d, e3) = no-line (eqb (q .grant) 0 || ltb 256 (q .grant), _) _ e2 in
+    let (f, e4) = no-line (leb (q .grant) (c .progress .fetched), _) _ e3 in
+    let (g, e5) = no-line (not (eqb (c .progress .state .ccw % 8) 0) || outside (length (c .storage)) (c .progress .state .ccw) 8, _) _ e4 in
     let (d1, d2) = neither (eqb (q .grant) 0) _ d in
     let (g1, g2) = neither (not (eqb (c .progress .state .ccw % 8) 0)) _ g in
     record {

@@ -30,6 +30,7 @@ pub mod Pairs
 pub mod Order
 -- The channel
 pub mod ChannelSteps
+pub mod ChannelRuns
 pub mod ChannelSentences
 pub mod ChannelRows
 -- Conditions 1 and 2

@@ -1,6 +1,6 @@
 -- `channel_step`: a request that has answered stays, one that its own lines refuse is refused, and else the step is the CCW to come.
 -- Assumes nothing.
-use Rattle.channel.proofs.Replies.{lines-pass, step-stays, step-refused, step-on}
+use Rattle.channel.proofs.Replies.{lines-pass, step-stays, step-refused, step-on, conditions-met}
 use borrow.Author.Needs.{needs}
 use Rattle.channel.proofs.channel_step.Statement.{statement}
 use Rattle.channel.proofs.channel_step.Tie as tie
@@ -29,13 +29,14 @@ next-ccw-requires c κs =
     lines-pass _ _ _ _ (told .before .before .request-lines .ensures) (told .enum-told3 .given .1)
 
 returns : tie.Need-returns
-returns c = step-stays _ _ _ _ _ _ _ (c .enum-told .given .1)
+returns c = conditions-met _ _ _ _ (step-stays _ _ _ _ _ _ _ (c .enum-told .given .1))
 
 returns-2 : tie.Need-returns-2
 returns-2 c =
     let told = c .before .before in
     let asked = told .before .before in
-    step-refused _ _ _ _ _ _ _ (asked .before .enum-told2 .given .1) (asked .request-lines .ensures) (told .lines .given .1) (c .answered .ensures)
+    let refused = asked .request-lines .ensures in
+    conditions-met _ _ _ _ (step-refused _ _ _ _ _ _ _ (asked .before .enum-told2 .given .1) refused (told .lines .given .1) (c .answered .ensures))
 
 same-length : tie.Need-same-length
 same-length c = search needs
@@ -50,7 +51,7 @@ returns-3 : tie.Need-returns-3
 returns-3 c =
     let did = c .before .before .before .before .before .before in
     let told = did .before .before .before .before .before .before .before in
-    step-on _ _ _ _ _ _ _ (told .enum-told2 .given .1) (did .next-ccw .ensures)
+    conditions-met _ _ _ _ (step-on _ _ _ _ _ _ _ (told .enum-told2 .given .1) (did .next-ccw .ensures))
 
 pub channel-step-spec : {M : Type 1} → statement M
 channel-step-spec =

@@ -82,7 +82,7 @@ returns-3 c =
     let start = few .before .before .before .before .before .before in
     step-called (start .args .settings) (start .args .storage .now) (start .args .keys .now) _ (start .args .from-device .now)
     (start .args .room .now) (start .args .progress .now) (few .if1 .left) _ (set .settings-of .ensures) _ _ _ _ _ _ _ _
-    (sym (valid .progress-valid .ensures) ∙ not-false _ (tested .if2 .left)) (read .progress-in .ensures) (call .channel-step .ensures)
+    (sym (valid .progress-valid .ensures) ∙ not-false _ (tested .if2 .left)) (read .progress-in .ensures) (call .channel-step .ensures .1)
     (numbered .standing-status .ensures .0) (put .put-progress .ensures) (c .standing-result .ensures)
 
 pub storage-unit-channel-step-spec : {M : Type 1} → statement M

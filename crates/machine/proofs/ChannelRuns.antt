@@ -9,19 +9,19 @@ use mathlib.Core.List.{List, [], _∷_, _++_}
 use mathlib.Core.Option.{Option, none, some}
 use native.Mathlib.Omega.{arith}
 use lib.ListN.{length}
-use borrow.Author.Tests.{leb-false}
 use Rattle.machine.specs.declared.Settings.{Settings}
 use Rattle.machine.specs.declared.AccessKind.the-variants.{Fetch, Store}
 use Rattle.machine.specs.declared.channel.ChannelRequest.{ChannelRequest}
 use Rattle.machine.specs.declared.channel.ChannelReason.{ChannelReason}
 use Rattle.machine.specs.declared.channel.ChannelAnswer.{ChannelAnswer}
 use Rattle.machine.specs.declared.channel.ChannelOperation.{ChannelOperation}
 use Rattle.machine.specs.declared.channel.ChannelOperation.the-variants.{TransferInChannel, Data, Invalid}
 use Rattle.machine.specs.declared.channel.Standing.{Standing}
 use Rattle.machine.specs.declared.channel.Standing.the-variants.{UnderWay, Answered}
 use Rattle.machine.specs.Channel.{Channel, refused, operationOf, ccwAt, firstRefusal, beforeFetching}
 use Rattle.machine.specs.Channel.{fetchingForbidden, beforeTransfer, dataForbidden, withCcwFetched, carriedOut, unlessRefused, unlessForbidden}
 use Rattle.machine.specs.Channel.{obeyed, nextCcw, stepBy, channelStep, steps, unrefused, fetchesBy, fetchesCcw, stepsThatFetch}
+use Rattle.machine.proofs.ChannelSteps.{fetchable, step-answered}
 
 -- a standing is not both
 pub not-under-way : {standing : Standing} {answer : ChannelAnswer} → standing ≡ Answered answer → standing ≡ UnderWay → ⊥
@@ -29,16 +29,6 @@ not-under-way p q = let z : _≡_ {A = ℕ} 0 1 = cc in omega arith
 
 not-refused : {found : Option ChannelReason} {r : ChannelReason} → found ≡ some r → found ≡ none → ⊥
 not-refused p q = let z : _≡_ {A = ℕ} 0 1 = cc in omega arith
-
--- where no line refuses, the first does not, and none behind it
-pub no-line : (l : Bool × ChannelReason) (ls : List (Bool × ChannelReason)) → firstRefusal (l ∷ ls) ≡ none
-    → (l .0 ≡ false) × (firstRefusal ls ≡ none)
-unfolding firstRefusal
-no-line l ls = go (l .0)
-  where
-    go : (b : Bool) → cond b (some (l .1)) (firstRefusal ls) ≡ none → (b ≡ false) × (firstRefusal ls ≡ none)
-    go true e = absurd (not-refused refl e)
-    go false e = (refl, e)
 
 -- a refusal by the first lines is that of all
 pub refused-before : (first rest : List (Bool × ChannelReason)) (r : ChannelReason) → firstRefusal first ≡ some r → firstRefusal (first ++ rest) ≡ some r
@@ -52,15 +42,6 @@ refused-before (l ∷ ls) rest r e = go (l .0) (refused-before ls rest r) e
     go false behind e = behind e
 
 module _ (s : Settings) (q : ChannelRequest) (fromDevice : List ℕ) where
-  -- where no line above the fetching refuses, a CCW is granted
-  pub granted : (c : Channel) → beforeFetching s q c ≡ none → c .progress .fetched < q .grant
-  unfolding beforeFetching
-  granted c e =
-      let behind-64 = no-line _ _ e .1 in
-      let behind-65 = no-line _ _ behind-64 .1 in
-      let behind-66 = no-line _ _ behind-65 .1 in
-      leb-false _ _ (no-line _ _ behind-66 .0)
-
   -- what a CCW asks for leaves the count
   carried-count : (o : ChannelOperation) (c : Channel) → carriedOut o s fromDevice c .progress .fetched ≡ c .progress .fetched
   unfolding carriedOut
@@ -111,19 +92,11 @@ module _ (s : Settings) (q : ChannelRequest) (fromDevice : List ℕ) where
             → (by line forbidden .progress .fetched ≡ 1 + c .progress .fetched) × (c .progress .fetched < q .grant)
         go (some r) forbidden e stands = absurd (not-under-way refl stands)
         go none true e stands = absurd (not-under-way refl stands)
-        go none false e stands = (fetched-count, granted c e)
+        go none false e stands = (fetched-count, fetchable s q c e .granted)
 
     pub refused-unfetched : (r : ChannelReason) → beforeFetching s q c ≡ some r → nextCcw s q fromDevice c ≡ refused r c
     unfolding nextCcw
     refused-unfetched r e = rw e refl
-
-    pub step-under-way : c .progress .standing ≡ UnderWay → channelStep s q fromDevice c ≡ nextCcw s q fromDevice c
-    unfolding channelStep
-    step-under-way stands = rw stands refl
-
-    pub step-answered : {answer : ChannelAnswer} → c .progress .standing ≡ Answered answer → channelStep s q fromDevice c ≡ c
-    unfolding channelStep
-    step-answered stands = rw stands refl
 
     -- a step counts one exactly where it fetches
     pub step-count : channelStep s q fromDevice c .progress .fetched ≡ cond (fetchesCcw s q c) 1 0 + c .progress .fetched
@@ -142,7 +115,7 @@ module _ (s : Settings) (q : ChannelRequest) (fromDevice : List ℕ) where
         by-line : (line : Option ChannelReason) (forbidden : Bool) → beforeFetching s q c ≡ line → by line forbidden .progress .fetched ≤ q .grant
         by-line (some r) forbidden e = h
         by-line none true e = h
-        by-line none false e = omega (arith, fetched-count, granted c e)
+        by-line none false e = omega (arith, fetched-count, fetchable s q c e .granted)
 
         under-way : nextCcw s q fromDevice c .progress .fetched ≤ q .grant
         under-way = by-line (beforeFetching s q c) (fetchingForbidden s q c) refl
@@ -159,7 +132,7 @@ module _ (s : Settings) (q : ChannelRequest) (fromDevice : List ℕ) where
   pub answered-stays : (n : ℕ) (c : Channel) {answer : ChannelAnswer} → c .progress .standing ≡ Answered answer → steps n s q fromDevice c ≡ c
   unfolding steps
   answered-stays zero c stands = refl
-  answered-stays (suc n) c stands = rw (step-answered c stands) (answered-stays n c stands)
+  answered-stays (suc n) c stands = rw (step-answered s q fromDevice c _ stands) (answered-stays n c stands)
 
   pub steps-count : (n : ℕ) (c : Channel) → steps n s q fromDevice c .progress .fetched ≡ stepsThatFetch n s q fromDevice c + c .progress .fetched
   unfolding steps stepsThatFetch

@@ -102,8 +102,10 @@ same-length c = search needs
 same-length-2 : tie.Need-same-length-2
 same-length-2 c =
     let obeyed = c .before .before .before .before .before .before in
-    obeyed .obey .kept .1 .1 .0 ∙ length-set (obeyed .before .before .before .before .before .before .before .before .before .before .before .before
-    .before .before .before .before .before .before .before .before .before .before .before .args .keys .now) _ _
+    let marked = obeyed .before .before .before .before .before .before .before .before in
+    let placed = marked .before .before .before .before .before .before in
+    let start = placed .before .before .before .before .before .before .before .before .before in
+    obeyed .obey .kept .1 .1 .0 ∙ length-set (start .args .keys .now) _ _
 
 same-length-3 : tie.Need-same-length-3
 same-length-3 c = search needs

@@ -32,7 +32,8 @@ returns-2 c =
     let tested = c .before in
     let valid = tested .before in
     let set = valid .before .before in
-    progress-refused _ _ _ _ _ _ _ _ _ (set .before .if1 .left) (sym (valid .progress-valid .ensures) ∙ not-true _ (tested .if2 .taken))
+    let start = set .before .before .before .before .before .before .before in
+    progress-refused _ _ _ _ _ (start .args .progress .now) _ _ _ (set .before .if1 .left) (sym (valid .progress-valid .ensures) ∙ not-true _ (tested .if2 .taken))
     (set .settings-of .ensures) (c .progress-refused .ensures)
 
 progress-in-requires : tie.Need-progress-in-requires

@@ -183,7 +183,8 @@ module _ (q : ChannelRequest) (g : ChannelProgress) (bytes : List ℕ) (sized : 
   -- they are a progress, and it is g
   pub left-is-progress : progressValid left ≡ true
   left-is-progress =
-      rw (length-left, chaining-read, status-read, zeros-read, more-zeros-read, le-leb _ 3 (chaining-small (g .state .chaining)), status-of (g .standing) .valid)
+      let small = le-leb _ 3 (chaining-small (g .state .chaining)) in
+      rw (length-left, chaining-read, status-read, zeros-read, more-zeros-read, small, status-of (g .standing) .valid)
 
   pub left-is-read : progressIn q left ≡ g
   left-is-read =

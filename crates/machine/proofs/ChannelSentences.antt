@@ -127,7 +127,8 @@ module _ (s : Settings) (keys : List ℕ) (start count : ℕ) where
       go (inl e) (yes h) = inr (there e h)
       go (inl e) (no h) =
           let same = length-written keys (λ i. unitOf s (start + i)) (λ i. afterFetch (getD keys (unitOf s (start + i)) 0)) count in
-          inl (List·getD-eq-default (rangeRecorded s Fetch keys start count) 0 {n = u} (omega (arith, same)) ∙ sym (List·getD-eq-default keys 0 {n = u} (omega arith)))
+          let past = List·getD-eq-default (rangeRecorded s Fetch keys start count) 0 {n = u} (omega (arith, same)) in
+          inl (past ∙ sym (List·getD-eq-default keys 0 {n = u} (omega arith)))
       go (inr e) d = inl (range-other-key s Fetch keys start count u (λ i h. eqb-false _ u (any-none (λ j. eqb (unitOf s (start + j)) u) count e i h)))
 
   pub fetched-forbidden : (kind : AccessKind) (accessKey from n : ℕ)

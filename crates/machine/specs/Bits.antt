@@ -1,4 +1,4 @@
--- Bits in the manual's numbering: bit 0 is the leftmost. Addresses and register words have 32 bits, a key byte has 8.
+-- Bits in the manual's numbering: bit 0 is the leftmost. Addresses and register words have 32 bits, a key byte and the command of a CCW have 8.
 use Prim.Native.Nat.{ℕ, _+_, _-_, _*_, _/_, _%_, _^_}
 
 -- bits first to last of a number with so many bits, as a number

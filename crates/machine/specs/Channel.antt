@@ -33,7 +33,7 @@ use Rattle.machine.specs.Protection.{permitted, recorded}
 
 -- The CCW.
 
--- the number of n bytes from an index on, big-endian
+-- the number in the n bytes from an index on, big-endian
 unfoldable pub bigEndian : ℕ → List ℕ → ℕ → ℕ
 bigEndian zero bytes i = 0
 bigEndian (suc n) bytes i = getD bytes i 0 * 256 ^ n + bigEndian n bytes (i + 1)
@@ -50,9 +50,9 @@ ccwAt storage a =
 
 -- hex 40, chain command, is carried; other flags are bad
 abbrev pub chainCommand : ℕ
-chainCommand = 64
+chainCommand = 0x40
 
--- a CCW that moves data between storage and the device: with another flag, or with count zero, it is bad
+-- a CCW that moves data between storage and the device: with flags other than 0 and hex 40, or with count zero, it is bad
 abbrev pub dataOperation : AccessKind → Ccw → ChannelOperation
 dataOperation kind c =
     cond (not (eqb (c .flags) 0 || eqb (c .flags) chainCommand) || eqb (c .count) 0) Invalid
@@ -131,13 +131,16 @@ standingAs g standing = record { state = g .state; fetched = g .fetched; standin
 abbrev pub refused : ChannelReason → Channel → Channel
 refused r c = withProgress c (standingAs (c .progress) (Answered (Refused r)))
 
--- The lines, each with its test. The reason of the first whose test holds, from top to bottom.
+-- The lines, each with its test. For each CCW their order is: 64, 65 and 66 of the request; 74; 71 for its address; 72 for the fetching of it; 71
+-- for what it is; 71 for its data range; 73; 72 for the transfer of its data (law ChannelSentences.seven-lines). They stand in two lists, each
+-- without its last, 72, which alone looks at keys: condition 3 names units by whether the lines above a 72 let the step pass.
+-- The reason of the first whose test holds, from top to bottom
 unfoldable pub firstRefusal : List (Bool × ChannelReason) → Option ChannelReason
 firstRefusal [] = none
 firstRefusal (l ∷ ls) = cond (l .0) (some (l .1)) (firstRefusal ls)
 
--- Before the first CCW: 64 the lengths, as for a processor; 65 a channel key over 15; 66 a grant not 1 to 256. At a later CCW of the request they
--- find the same lengths and operands
+-- 64 the lengths, as for a processor; 65 a channel key over 15; 66 a grant not 1 to 256. They are tested at each step; where they let the first
+-- CCW pass, they let every later one pass, since they find the same lengths and operands
 abbrev pub requestLines : Settings → (storageLength keyLength : ℕ) → ChannelRequest → List (Bool × ChannelReason)
 requestLines s storageLength keyLength q =
     (not (lengthsValid s storageLength keyLength), Configuration)
@@ -160,13 +163,14 @@ beforeFetching s q c =
 abbrev pub fetchingForbidden : Settings → ChannelRequest → Channel → Bool
 fetchingForbidden s q c = rangeForbidden s Fetch (q .key) (c .keys) (c .progress .state .ccw) 8
 
--- 71: a bad command or flag, a zero count, or a misplaced transfer: one that comes first, or straight after another
+-- where a transfer in channel may stand: not first, and not straight after another
 abbrev pub transferAllowed : Chaining → Bool
 transferAllowed First = false
 transferAllowed Command = true
 transferAllowed Transfer = false
 transferAllowed Ended = false
 
+-- 71: a bad command or flag, a zero count, or a misplaced transfer
 abbrev pub programCheck : ChannelOperation → Chaining → Bool
 programCheck (TransferInChannel address) chaining = not (transferAllowed chaining)
 programCheck (Data kind address count chains) chaining = false
@@ -202,7 +206,8 @@ beforeTransfer fromLength c o =
 
 -- A step.
 
--- the CCW is fetched: its unit's key is written as a completed fetch does, and it is counted
+-- the CCW is fetched: its unit's key is written as a completed fetch does, and it is counted. Its 8 bytes are in one unit, since 71 asks for a
+-- multiple of 8 (law ChannelSteps.ccw-key)
 unfoldable pub withCcwFetched : Settings → Channel → Channel
 withCcwFetched s c =
     channel (c .storage) (rangeRecorded s Fetch (c .keys) (c .progress .state .ccw) 8) (c .room)
@@ -300,6 +305,7 @@ outcomeIn c =
       room = c .room;
     }
 
+-- the outcome with what a routine replies
 abbrev pub channelOutcome : ChannelReply → List ℕ → List ℕ → List ℕ → ChannelOutcome
 channelOutcome r storage keys room =
     record { answer = some (channelValues (r .answer)); count = r .count; state = r .state; storage = storage; keys = keys; room = room }

@@ -60,8 +60,8 @@ returns-3 c =
     let few = set .before in
     let start = few .before .before .before .before .before .before in
     request-called (start .args .settings) (start .args .storage .now) (start .args .keys .now) _ (start .args .from-device .now)
-    (start .args .room .now) (start .args .progress .now) (few .if1 .left) _ (set .settings-of .ensures) _ _ _ _ _ _ (call .channel-request .result) (sized .if2 .left)
-    (call .channel-request .ensures .0) (numbered .status-of .ensures .0) (put .put-progress .ensures) (c .result-of .ensures)
+    (start .args .room .now) (start .args .progress .now) (few .if1 .left) _ (set .settings-of .ensures) _ _ _ _ _ _
+    (call .channel-request .result) (sized .if2 .left) (call .channel-request .ensures .0) (numbered .status-of .ensures .0) (put .put-progress .ensures) (c .result-of .ensures)
 
 pub storage-unit-channel-spec : {M : Type 1} → statement M
 storage-unit-channel-spec =

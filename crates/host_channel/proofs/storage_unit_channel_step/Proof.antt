@@ -33,8 +33,8 @@ returns-2 c =
     let valid = tested .before in
     let set = valid .before .before in
     let start = set .before .before .before .before .before .before .before in
-    progress-refused _ _ _ _ _ (start .args .progress .now) _ _ _ (set .before .if1 .left) (sym (valid .progress-valid .ensures) ∙ not-true _ (tested .if2 .taken))
-    (set .settings-of .ensures) (c .progress-refused .ensures)
+    progress-refused _ _ _ _ _ (start .args .progress .now) _ _ _ (set .before .if1 .left)
+    (sym (valid .progress-valid .ensures) ∙ not-true _ (tested .if2 .taken)) (set .settings-of .ensures) (c .progress-refused .ensures)
 
 progress-in-requires : tie.Need-progress-in-requires
 progress-in-requires c κs =
@@ -53,7 +53,8 @@ put-progress-requires c κs =
     let call = c .before .before .before .before .before .before .before .before in
     let tested = call .before .before .before .before .before .before in
     let start = tested .before .before .before .before .before .before .before .before .before .before in
-    (valid-length (start .args .progress .now) (sym (tested .before .progress-valid .ensures) ∙ not-false _ (tested .if2 .left)), c .standing-status .ensures .1)
+    let valid = sym (tested .before .progress-valid .ensures) ∙ not-false _ (tested .if2 .left) in
+    (valid-length (start .args .progress .now) valid, c .standing-status .ensures .1)
 
 standing-result-requires : tie.Need-standing-result-requires
 standing-result-requires c κs = search needs

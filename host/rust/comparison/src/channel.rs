@@ -275,12 +275,17 @@ fn key_unit(settings: u32) -> usize {
     if settings % 2 == 1 { 4096 } else { 2048 }
 }
 
+/// Whether another bit of the settings is on.
+fn settings_wrong(lent: &Lent) -> bool {
+    lent.settings > 3
+}
+
 /// Whether line 64 applies.
 fn lengths_wrong(lent: &Lent) -> bool {
     let length = lent.storage.len();
     let storage_good = length.is_multiple_of(4096) && (4096..=16_777_216).contains(&length);
     let keys_good = lent.keys.len() == length / key_unit(lent.settings);
-    lent.settings > 3 || !storage_good || !keys_good
+    settings_wrong(lent) || !storage_good || !keys_good
 }
 
 /// Whether a byte lies outside storage, for the channel.
@@ -393,7 +398,8 @@ fn perform(
     match meaning(ccw.command) {
         Command::Bad => return Line::Command,
         Command::Transfer => {
-            if matches!(record.chaining, Chaining::First | Chaining::Transfer) {
+            // Only behind a CCW that chains: not first, nor straight after another.
+            if record.chaining != Chaining::Command {
                 return Line::Misplaced;
             }
             record.address = ccw.address;
@@ -517,8 +523,12 @@ fn packed(number: u16) -> u64 {
     u64::from(number) << 48
 }
 
-/// What the C function for a whole request gives and leaves.
+/// What the C function for a whole request gives and leaves. Wrong settings are refused with 64, a
+/// progress of another length with 65, or with 64 where that applies; then the progress is kept.
 pub fn whole_by_numbers(lent: &mut Lent, request: &Request, progress: &mut [u8]) -> u64 {
+    if settings_wrong(lent) {
+        return packed(64);
+    }
     if progress.len() != PROGRESS_LENGTH {
         return packed(if lengths_wrong(lent) { 64 } else { 65 });
     }
@@ -527,9 +537,12 @@ pub fn whole_by_numbers(lent: &mut Lent, request: &Request, progress: &mut [u8])
     packed(number_given(&reached))
 }
 
-/// What the C function for one step gives and leaves. A progress that is none is refused with 65,
-/// or with 64 where that applies, and kept.
+/// What the C function for one step gives and leaves. Wrong settings are refused with 64, a
+/// progress that is none with 65, or with 64 where that applies; then the progress is kept.
 pub fn step_by_numbers(lent: &mut Lent, request: &Request, progress: &mut [u8]) -> u64 {
+    if settings_wrong(lent) {
+        return packed(64);
+    }
     let Some(mut reached) = progress_from(progress) else {
         return packed(if lengths_wrong(lent) { 64 } else { 65 });
     };

@@ -180,7 +180,7 @@ fn run<const SHIFT: u32, const ONE: bool>(
         let low = command & 3;
         if low == 0 || low == 3 {
             // A transfer in channel is allowed behind a CCW that chains.
-            if command & 15 != 8 || record.chaining & 1 == 0 {
+            if command & 15 != 8 || record.chaining != CHAINING_COMMAND {
                 return PROGRAM;
             }
             record.address = address as u32;
@@ -238,7 +238,7 @@ fn tested<const ONE: bool>(
     (key, _, grant): Numbers,
     record: &mut Record,
 ) -> u16 {
-    if wrong(settings, with.storage.len(), with.keys.len()) {
+    if wrong_lengths(settings, with.storage.len(), with.keys.len()) {
         return LENGTHS;
     }
     if key > KEY_MAXIMUM {
@@ -254,11 +254,16 @@ fn tested<const ONE: bool>(
     }
 }
 
-/// Whether settings or lengths are wrong.
+/// Whether another bit of the settings is on: then nothing changes.
 #[inline(always)]
-fn wrong(settings: u32, length: usize, key_count: usize) -> bool {
+fn wrong_settings(settings: u32) -> bool {
+    settings & !(FOUR_K | EXTENSIONS) != 0
+}
+
+#[inline(always)]
+fn wrong_lengths(settings: u32, length: usize, key_count: usize) -> bool {
     let shift = if settings & FOUR_K == 0 { 11 } else { 12 };
-    settings & !(FOUR_K | EXTENSIONS) != 0 || lengths_wrong(shift, length, key_count)
+    lengths_wrong(shift, length, key_count)
 }
 
 #[inline(always)]
@@ -266,10 +271,10 @@ fn packed(number: u16) -> u64 {
     u64::from(number) << ANSWER_NUMBER.trailing_zeros()
 }
 
-/// The answer where the progress is none.
+/// The answer where the progress is none, with right settings.
 #[cold]
 fn without_progress(settings: u32, with: &Lent) -> u64 {
-    if wrong(settings, with.storage.len(), with.keys.len()) {
+    if wrong_lengths(settings, with.storage.len(), with.keys.len()) {
         packed(LENGTHS)
     } else {
         packed(KEY)
@@ -279,6 +284,9 @@ fn without_progress(settings: u32, with: &Lent) -> u64 {
 /// A whole request.
 #[inline(always)]
 fn whole(settings: u32, mut with: Lent, numbers: Numbers, progress: &mut [u8]) -> u64 {
+    if wrong_settings(settings) {
+        return packed(LENGTHS);
+    }
     let Ok(progress) = progress.try_into() else {
         return without_progress(settings, &with);
     };
@@ -301,6 +309,9 @@ fn is_progress(progress: &[u8; PROGRESS_LENGTH]) -> bool {
 /// One step.
 #[inline(always)]
 fn step(settings: u32, mut with: Lent, numbers: Numbers, progress: &mut [u8]) -> u64 {
+    if wrong_settings(settings) {
+        return packed(LENGTHS);
+    }
     let progress = match <&mut [u8; PROGRESS_LENGTH]>::try_from(progress) {
         Ok(progress) if is_progress(progress) => progress,
         _ => return without_progress(settings, &with),

@@ -31,7 +31,7 @@ use storage_unit_comparison::units::{Plain, Proved};
 use support::channels::*;
 use support::*;
 
-const DEFAULT_PROGRAMS: u64 = 500_000;
+const DEFAULT_PROGRAMS: u64 = 200_000;
 const DEFAULT_SEED: u64 = 4_370_000;
 
 /// How many requests a machine gets.
@@ -290,6 +290,16 @@ impl Side {
 /// A number as the C functions give it.
 fn packed(number: u16) -> u64 {
     u64::from(number) << 48
+}
+
+/// The bytes that a call leaves where the reference comes to this progress: with wrong settings
+/// those from before it.
+fn bytes_left(lengths: Lengths, progress: &Progress, before: &[u8]) -> Vec<u8> {
+    if lengths.settings > 3 {
+        before.to_vec()
+    } else {
+        channel::progress_bytes(progress).to_vec()
+    }
 }
 
 /// What the reference did: the progress and the keys after each step.
@@ -719,6 +729,7 @@ fn compare(expected: &Side, found: &Side, trace: &Trace, whole: bool, way: &str)
 
 /// Runs the request step by step and compares with the steps of the reference.
 fn run_steps<U: ChannelUnit>(side: &mut Side, lengths: Lengths, asked: &Asked, trace: &Trace) {
+    let begun_with = side.progress.clone();
     for (number, progress) in trace.progress.iter().enumerate() {
         let given = side.call(U::STEP, lengths, asked);
         assert_eq!(
@@ -726,11 +737,8 @@ fn run_steps<U: ChannelUnit>(side: &mut Side, lengths: Lengths, asked: &Asked, t
             packed(channel::number_given(progress)),
             "step {number}"
         );
-        assert_eq!(
-            side.progress,
-            channel::progress_bytes(progress),
-            "step {number}"
-        );
+        let left = bytes_left(lengths, progress, &begun_with);
+        assert_eq!(side.progress, left, "step {number}");
         if lengths.keys <= FEW_KEYS {
             let keys = &trace.keys[number * lengths.keys..][..lengths.keys];
             assert_eq!(&side.keys[..lengths.keys], keys, "step {number}");
@@ -738,15 +746,10 @@ fn run_steps<U: ChannelUnit>(side: &mut Side, lengths: Lengths, asked: &Asked, t
     }
     // The request is answered. A further step gives the same, and does nothing.
     let last = trace.progress.last().expect("a step");
-    if last.status != Status::Answered(64) {
-        let given = side.call(U::STEP, lengths, asked);
-        assert_eq!(given, packed(channel::number_given(last)), "a further step");
-        assert_eq!(
-            side.progress,
-            channel::progress_bytes(last),
-            "a further step"
-        );
-    }
+    let given = side.call(U::STEP, lengths, asked);
+    assert_eq!(given, packed(channel::number_given(last)), "a further step");
+    let left = bytes_left(lengths, last, &begun_with);
+    assert_eq!(side.progress, left, "a further step");
 }
 
 /// The requests of one machine.
@@ -791,9 +794,10 @@ fn run_machine<U: ChannelUnit>(seed: u64, requests: u64, counts: &mut Counts, po
         let last = trace.progress.last().expect("a step");
 
         any_progress(random, &mut whole.progress);
+        let left = bytes_left(lengths, last, &whole.progress);
         let given = whole.call(U::WHOLE, lengths, asked);
         assert_eq!(given, packed(channel::number_given(last)), "whole");
-        assert_eq!(whole.progress, channel::progress_bytes(last), "whole");
+        assert_eq!(whole.progress, left, "whole");
         progress_not_begun(random, &mut steps.progress);
         run_steps::<U>(steps, lengths, asked, &trace);
 
@@ -840,6 +844,9 @@ struct AnySteps {
     fetched_over_grant: u64,
     position_over_length: u64,
     transferred: u64,
+    ended_under_way: u64,
+    settings_other: u64,
+    answered_and_lengths_wrong: u64,
 }
 
 /// The numbers that a step can give.
@@ -876,7 +883,7 @@ fn random_progress(random: &mut Random, asked: &Asked, seen: &mut AnySteps) -> V
     };
     let (taken, given) = (position(asked.from.len()), position(asked.room.len()));
     bytes[0..4].copy_from_slice(&address.to_le_bytes());
-    bytes[4] = random.below(3) as u8;
+    bytes[4] = random.below(4) as u8;
     bytes[5] = match random.below(8) {
         0 => random.pick(&[0, 2, 64, 65, 66, 71, 72, 73, 74]),
         _ => 1,
@@ -922,11 +929,10 @@ fn random_steps<U: ChannelUnit>() {
         let progress = random_progress(random, &asked, &mut seen);
         let known = channel::progress_from(&progress);
         let answered = known.is_some_and(|known| matches!(known.status, Status::Answered(_)));
-        let lengths = if answered {
-            right
-        } else {
-            random_lengths(random, right)
-        };
+        let lengths = random_lengths(random, right);
+        seen.settings_other += u64::from(lengths.settings > 3);
+        let other = (lengths.storage, lengths.keys) != (right.storage, right.keys);
+        seen.answered_and_lengths_wrong += u64::from(answered && other);
         seen.malformed += u64::from(known.is_none());
         seen.wrong_length += u64::from(progress.len() != PROGRESS_LENGTH);
         seen.answered += u64::from(answered);
@@ -934,6 +940,9 @@ fn random_steps<U: ChannelUnit>() {
             side.prepare(&asked);
             side.progress.clone_from(&progress);
         }
+        let ended = known.is_some_and(|known| {
+            known.status == Status::UnderWay && known.record.chaining == Chaining::Ended
+        });
         let [expected, found] = &mut sides;
         let mut lent = Lent {
             settings: lengths.settings,
@@ -954,6 +963,12 @@ fn random_steps<U: ChannelUnit>() {
         let column = STEP_NUMBERS.iter().position(|each| packed(*each) == given);
         seen.numbers[column.expect("a number of a step")] += 1;
         seen.transferred += u64::from(expected.progress.get(4) == Some(&2) && given == packed(255));
+        let at = progress.get(..4).map_or(0, |bytes| {
+            u32::from_le_bytes(bytes.try_into().expect("four bytes")) as usize
+        });
+        // A transfer in channel where the program has ended: none is to come.
+        let transfer = expected.storage.get(at).is_some_and(|byte| byte & 15 == 8);
+        seen.ended_under_way += u64::from(ended && transfer && given == packed(71));
     }
     println!("{}: {seen:?}", U::NAME);
     let cases = [
@@ -963,10 +978,13 @@ fn random_steps<U: ChannelUnit>() {
         seen.fetched_over_grant,
         seen.position_over_length,
         seen.transferred,
+        seen.ended_under_way,
+        seen.settings_other,
     ];
     for count in seen.numbers.iter().chain(&cases) {
         assert!(*count >= steps / 500, "{seen:?}");
     }
+    assert!(seen.answered_and_lengths_wrong >= 100, "{seen:?}");
 }
 
 /// The methods of a machine against the C functions.

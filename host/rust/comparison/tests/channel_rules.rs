@@ -237,14 +237,13 @@ fn tests_before_the_first<C: Channel>() {
         grant: 0,
         ..request()
     };
-    for settings in [4, 8, 1 << 31, u32::MAX, 1] {
-        let other = Lent {
-            settings,
-            ..good.clone()
-        };
-        refused::<C>(&other, wrong, 64, 0, &[]);
-        refused::<C>(&other, request(), 64, 0, &[]);
-    }
+    // The keys are those of 2K units.
+    let other = Lent {
+        settings: 1,
+        ..good.clone()
+    };
+    refused::<C>(&other, wrong, 64, 0, &[]);
+    refused::<C>(&other, request(), 64, 0, &[]);
     let mut short = good.clone();
     short.storage.pop();
     refused::<C>(&short, wrong, 64, 0, &[]);
@@ -683,6 +682,45 @@ fn wrong_progress<C: Channel>() {
     assert_eq!(reached(0, &progress).fetched, 1);
 }
 
+/// Settings with another bit on: 64 before all else, whatever the progress is, and nothing changes,
+/// the progress neither.
+fn wrong_settings<C: Channel>() {
+    let good = with(&[ccw(WRITE, 0, 0, 1)]);
+    let asked = Request {
+        key: 16,
+        grant: 0,
+        ..request()
+    };
+    let mut under_way = [0; 32];
+    under_way[0..6].copy_from_slice(&[0, 16, 0, 0, 1, 1]);
+    let mut answered = [0; 32];
+    answered[5] = 71;
+    let progresses = [
+        &[0; 32][..],
+        &under_way,
+        &answered,
+        &[0xEE; 32],
+        &[0; 31],
+        &[],
+    ];
+    for settings in [4, 5, 6, 7, 8, 256, 1 << 31, u32::MAX] {
+        for request in [request(), asked] {
+            for function in [Function::Whole, Function::Step] {
+                for progress in progresses {
+                    let before = Lent {
+                        settings,
+                        ..good.clone()
+                    };
+                    let (mut after, mut left) = (before.clone(), progress.to_vec());
+                    let packed = C::call(function, &mut after, request, &mut left);
+                    assert_eq!(packed, 64 << 48, "settings {settings}, {progress:?}");
+                    assert!(after == before && left == progress, "nothing changes");
+                }
+            }
+        }
+    }
+}
+
 /// An answered request: a step does nothing and gives the answer again, whatever the request is.
 fn answered<C: Channel>() {
     let lent = with(&[ccw(WRITE, 0, 0, 1)]);
@@ -752,15 +790,27 @@ fn changed_between_steps<C: Channel>() {
 }
 
 /// Ours: a host makes up the progress of a request that is under way with the chaining of one that
-/// has ended. It is taken for one that chains.
+/// has ended. A transfer in channel is allowed behind a CCW that chains and nowhere else; data are
+/// no matter.
 fn made_up_chaining<C: Channel>() {
-    let lent = with(&[ccw(TRANSFER, FIRST + 8, 0, 0)]);
-    let mut progress = [0; 32];
-    progress[0..4].copy_from_slice(&FIRST.to_le_bytes());
-    progress[4..6].copy_from_slice(&[3, 1]);
-    let packed = C::call(Function::Step, &mut lent.clone(), request(), &mut progress);
-    let end = reached(packed, &progress);
-    assert_eq!((end.number, end.chaining, end.fetched), (255, 2, 1));
+    for chaining in 0..=3 {
+        let step = |ccw| {
+            let mut progress = [0; 32];
+            progress[0..4].copy_from_slice(&FIRST.to_le_bytes());
+            progress[4..6].copy_from_slice(&[chaining, 1]);
+            let packed = C::call(Function::Step, &mut with(&[ccw]), request(), &mut progress);
+            let end = reached(packed, &progress);
+            (end.number, end.chaining, end.fetched)
+        };
+        let transferred = if chaining == 1 {
+            (255, 2, 1)
+        } else {
+            (71, chaining, 1)
+        };
+        assert_eq!(step(ccw(TRANSFER, FIRST + 8, 0, 0)), transferred);
+        assert_eq!(step(ccw(WRITE, 0, CHAIN, 1)), (255, 1, 1));
+        assert_eq!(step(ccw(READ, 0, 0, 1)), (0, 3, 1));
+    }
 }
 
 /// Ours: an answered request whose lengths have become wrong gives its answer again.
@@ -815,6 +865,7 @@ for_each_channel! {
     earlier_ccws_stand
     low_addresses
     wrong_progress
+    wrong_settings
     answered
     changed_between_steps
     made_up_chaining

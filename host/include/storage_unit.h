@@ -225,17 +225,21 @@ struct storage_unit_player {
  * another from the first on, and room for those that go to it, which is filled from its first byte
  * on. CCWs are fetched one by one, each when its turn comes.
  *
- * The answer of a program has one of these numbers, or STORAGE_UNIT_NUMBER_COMPLETED where it ended
- * well; its place, word and rule are 0. For each CCW the lines are tested in this order: 74; 71 for
- * its address; 72 for its fetching; 71 for what it is; 71 for the range of its data; 73; 72 for its
- * data. A CCW that is refused moves nothing and changes no key but that of its own unit, if it was
- * fetched; what the CCWs before it did stands.
+ * The answer of a program is STORAGE_UNIT_NUMBER_COMPLETED where it ended well, else
+ * STORAGE_UNIT_NUMBER_CONFIGURATION or one of these numbers; its place, word and rule are 0. Tested
+ * are 64, 65 and 66, and then for each CCW, in this order: 74; 71 for its address; 72 for its
+ * fetching; 71 for what it is; 71 for the range of its data; 73; 72 for its data. A CCW that is
+ * refused moves nothing and changes no key but that of its own unit, if it was fetched; what the
+ * CCWs before it did stands.
  */
-#define STORAGE_UNIT_NUMBER_PROGRAM    71u /* a bad CCW, a bad address, or data outside storage */
-#define STORAGE_UNIT_NUMBER_FORBIDDEN  72u /* a key forbids the fetching of a CCW, or its data */
-#define STORAGE_UNIT_NUMBER_DEVICE     73u /* too few bytes from the device, or too little room */
-#define STORAGE_UNIT_NUMBER_GRANT_USED 74u /* the granted number of CCWs is used up */
-#define STORAGE_UNIT_NUMBER_UNDER_WAY  255u /* no answer: the program is under way */
+
+#define STORAGE_UNIT_NUMBER_CHANNEL_KEY 65u  /* the channel's key is over 15; a wrong progress */
+#define STORAGE_UNIT_NUMBER_GRANT       66u  /* the grant is not 1 to 256 */
+#define STORAGE_UNIT_NUMBER_PROGRAM     71u  /* a bad CCW, a bad address, or data outside storage */
+#define STORAGE_UNIT_NUMBER_FORBIDDEN   72u  /* a key forbids the fetching of a CCW, or its data */
+#define STORAGE_UNIT_NUMBER_DEVICE      73u  /* too few bytes from the device, or too little room */
+#define STORAGE_UNIT_NUMBER_GRANT_USED  74u  /* the granted number of CCWs is used up */
+#define STORAGE_UNIT_NUMBER_UNDER_WAY   255u /* no answer: the program is under way */
 
 #define STORAGE_UNIT_CCW_LENGTH        8u
 #define STORAGE_UNIT_CCW_WRITE         0x01u /* commands: storage to device */
@@ -301,9 +305,8 @@ struct storage_unit_progress {
  *
  * Bytes behind a pointer to const are only read, and may be in read-only memory: the storage of
  * storage_unit_fetch, the bytes of storage_unit_store, the piece of storage_unit_play, the bytes
- * from the device of a channel. Other memory
- * that is lent must be writable: an instruction puts a condition code into its record also where it
- * stays the same.
+ * from the device of a channel. Other memory that is lent must be writable: an instruction puts a
+ * condition code into its record also where it stays the same.
  */
 
 /*
@@ -423,16 +426,18 @@ uint32_t storage_unit_play(uint32_t settings,
 /*
  * storage_unit_channel: a whole channel program.
  *
- * settings       As for storage_unit_request. Another bit: 64, before all else.
+ * settings       As for storage_unit_request. Another bit: 64, before all else, and nothing
+ *                changes, the progress neither.
  * storage, keys  As for storage_unit_request. A wrong length: 64.
  * key            The channel's key, 0 to 15. A greater number: 65.
  * first          The address of the first CCW. Any number: a wrong one is 71.
  * grant          How many CCWs may be fetched, 1 to 256. Another number: 66.
  * from           The bytes from the device, as many as there are. They are only read.
  * room           The room for bytes to the device. Bytes behind those given stay as they are.
- * progress       A struct storage_unit_progress, by its bytes: 32. Another length: 65, and nothing
- *                changes. Whatever it holds, the program runs from its start; at its end the call
- *                leaves there how far it came, with the number of CCWs fetched.
+ * progress       A struct storage_unit_progress, by its bytes: 32. Another length: 65, or 64 where
+ *                that applies, and nothing changes. Whatever it holds, the program runs from its
+ *                start; at its end the call leaves there how far it came, with the number of CCWs
+ *                fetched, also where it is refused.
  *
  * Returns the answer in one value, for storage_unit_number to take apart. The caller must see to
  * what is said at storage_unit_request, for these ranges of bytes.
@@ -441,9 +446,9 @@ uint32_t storage_unit_play(uint32_t settings,
  * each. Give it a progress of zeros at first and then as the step before left it. Between two steps
  * processors may make requests. While the program is under way, the number is
  * STORAGE_UNIT_NUMBER_UNDER_WAY. A step of a program that has its answer changes nothing and gives
- * the answer again. A program takes a step for each CCW that it fetches, and one more where the last
- * step fetches none. A progress that no step leaves (another length, a chaining over 3, another
- * status, a byte that must be zero): 65 where the lengths are good, and nothing changes.
+ * the answer again. A program takes a step for each CCW that it fetches, and one more where the
+ * last step fetches none. A progress that is none (another length, a chaining over 3, another
+ * status, a byte that must be zero): 65, or 64 where that applies, and nothing changes.
  */
 uint64_t storage_unit_channel(uint32_t settings,
                               uint8_t *storage, size_t storage_length,
@@ -467,7 +472,10 @@ static inline uint32_t storage_unit_number(uint64_t answer)
     return (uint32_t)(answer >> 48);
 }
 
-/* A text for the number of an answer, with the manual's name; another text for any other number. */
+/*
+ * A text for the number of an answer to a request, with the manual's name; another text for any
+ * other number.
+ */
 static inline const char *storage_unit_message(uint32_t number)
 {
     switch (number) {
@@ -491,6 +499,33 @@ static inline const char *storage_unit_message(uint32_t number)
         return "protection exception";
     case STORAGE_UNIT_NUMBER_COMPLETED:
         return "completed";
+    default:
+        return "not a number of an answer";
+    }
+}
+
+/* The same for the number of an answer to a channel program, or of one that is under way. */
+static inline const char *storage_unit_channel_message(uint32_t number)
+{
+    switch (number) {
+    case STORAGE_UNIT_NUMBER_CONFIGURATION:
+        return "configuration: wrong settings, or a wrong length of storage or keys";
+    case STORAGE_UNIT_NUMBER_CHANNEL_KEY:
+        return "the key of the channel is over 15, or its progress is wrong";
+    case STORAGE_UNIT_NUMBER_GRANT:
+        return "the grant is not 1 to 256";
+    case STORAGE_UNIT_NUMBER_PROGRAM:
+        return "program check";
+    case STORAGE_UNIT_NUMBER_FORBIDDEN:
+        return "protection check";
+    case STORAGE_UNIT_NUMBER_DEVICE:
+        return "too few bytes from the device, or too little room";
+    case STORAGE_UNIT_NUMBER_GRANT_USED:
+        return "the granted CCWs are used up";
+    case STORAGE_UNIT_NUMBER_COMPLETED:
+        return "completed";
+    case STORAGE_UNIT_NUMBER_UNDER_WAY:
+        return "under way";
     default:
         return "not a number of an answer";
     }
@@ -778,7 +813,10 @@ static inline uint32_t storage_unit_play_piece(const struct storage_unit_machine
     return result;
 }
 
-/* Writes a CCW: command, address, flags (STORAGE_UNIT_CCW_CHAIN_COMMAND or 0), count. */
+/*
+ * Writes a CCW: command, address, flags (STORAGE_UNIT_CCW_CHAIN_COMMAND or 0), count. Of the
+ * address the low 24 bits are written, and nothing is tested here.
+ */
 static inline void storage_unit_put_ccw(uint8_t *ccw, uint8_t command, uint32_t address,
                                         uint8_t flags, uint16_t count)
 {

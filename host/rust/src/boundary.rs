@@ -350,6 +350,24 @@ pub const PLAY_RECORD_MAXIMUM: usize = 514;
 /// The number of bytes of output that any one line has room in.
 pub const PLAY_OUTPUT_MINIMUM: usize = 64;
 
+/// The number of bytes of a CCW.
+pub const CCW_LENGTH: usize = 8;
+/// Command of a CCW: from storage to the device. Other bits than the low two may be on.
+pub const CCW_WRITE: u8 = 0x01;
+/// Command of a CCW: from the device to storage. Other bits than the low two may be on.
+pub const CCW_READ: u8 = 0x02;
+/// Command of a CCW: transfer in channel. Other bits than the low four may be on.
+pub const CCW_TRANSFER: u8 = 0x08;
+/// The flag of a CCW: the program goes on with the CCW behind it.
+pub const CCW_CHAIN_COMMAND: u8 = 0x40;
+/// The greatest count of a CCW.
+pub const CCW_COUNT_MAXIMUM: u16 = u16::MAX;
+
+/// The greatest key of a channel.
+pub const CHANNEL_KEY_MAXIMUM: u32 = 15;
+/// The greatest number of CCWs that can be granted.
+pub const GRANT_MAXIMUM: u32 = 256;
+
 /// The number of bytes of a channel's progress. Numbers in it have the least significant byte
 /// first, and bytes that are not named here are zero.
 pub const PROGRESS_LENGTH: usize = 32;
@@ -950,6 +968,23 @@ pub unsafe fn call_channel(
         CHANNEL_UNDER_WAY => None,
         number => Some(Err(ChannelRefusal::given(number))),
     }
+}
+
+/// The bytes of a CCW: command, address, flags ([`CCW_CHAIN_COMMAND`] or 0) and count. Of the
+/// address the low 24 bits are taken.
+///
+/// ```
+/// use storage_unit::boundary::{CCW_CHAIN_COMMAND, CCW_READ, encode_ccw};
+///
+/// let ccw = encode_ccw(CCW_READ, 0x2000, CCW_CHAIN_COMMAND, 800);
+/// assert_eq!(ccw, [0x02, 0x00, 0x20, 0x00, 0x40, 0x00, 0x03, 0x20]);
+/// ```
+#[inline]
+#[must_use]
+pub const fn encode_ccw(command: u8, address: u32, flags: u8, count: u16) -> [u8; CCW_LENGTH] {
+    let [_, high, middle, low] = address.to_be_bytes();
+    let [count_high, count_low] = count.to_be_bytes();
+    [command, high, middle, low, flags, 0, count_high, count_low]
 }
 
 /// The bytes of a channel's progress.

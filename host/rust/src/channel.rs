@@ -189,7 +189,7 @@ impl fmt::Display for ChannelRefusal {
             ChannelRefusal::Configuration => {
                 "configuration: wrong settings, or a wrong length of storage or keys"
             }
-            ChannelRefusal::Key => "the key of the channel is over 15",
+            ChannelRefusal::Key => "the key of the channel is over 15, or its progress is wrong",
             ChannelRefusal::Grant => "the grant is not 1 to 256",
             ChannelRefusal::Program => "program check",
             ChannelRefusal::Protection => "protection check",

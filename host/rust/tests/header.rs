@@ -4,8 +4,8 @@ use std::collections::BTreeMap;
 
 use storage_unit::boundary::*;
 use storage_unit::{
-    ACCESS_MAXIMUM, Reason, Rule, STORAGE_MAXIMUM, STORAGE_MULTIPLE, Settings, VERSION, key,
-    version,
+    ACCESS_MAXIMUM, ChannelRefusal, Reason, Rule, STORAGE_MAXIMUM, STORAGE_MULTIPLE, Settings,
+    VERSION, key, version,
 };
 
 const HEADER: &str = include_str!("../../include/storage_unit.h");
@@ -42,6 +42,19 @@ fn name(reason: Reason) -> &'static str {
         Reason::Specification => "SPECIFICATION",
         Reason::Addressing => "ADDRESSING",
         Reason::Protection => "PROTECTION",
+    }
+}
+
+/// The header's name of a channel's refusal. The first is that of a reason too.
+fn channel_name(refusal: ChannelRefusal) -> &'static str {
+    match refusal {
+        ChannelRefusal::Configuration => "CONFIGURATION",
+        ChannelRefusal::Key => "CHANNEL_KEY",
+        ChannelRefusal::Grant => "GRANT",
+        ChannelRefusal::Program => "PROGRAM",
+        ChannelRefusal::Protection => "FORBIDDEN",
+        ChannelRefusal::Device => "DEVICE",
+        ChannelRefusal::UsedUp => "GRANT_USED",
     }
 }
 
@@ -100,8 +113,32 @@ fn numbers_are_those_of_the_header() {
         ("PLAY_RECORD_MAXIMUM", PLAY_RECORD_MAXIMUM as u64),
         ("PLAY_OUTPUT_MINIMUM", PLAY_OUTPUT_MINIMUM as u64),
         ("PLAYER_LENGTH", PLAYER_LENGTH as u64),
+        ("NUMBER_UNDER_WAY", CHANNEL_UNDER_WAY.into()),
+        ("CCW_LENGTH", CCW_LENGTH as u64),
+        ("CCW_WRITE", CCW_WRITE.into()),
+        ("CCW_READ", CCW_READ.into()),
+        ("CCW_TRANSFER", CCW_TRANSFER.into()),
+        ("CCW_CHAIN_COMMAND", CCW_CHAIN_COMMAND.into()),
+        ("CCW_COUNT_MAXIMUM", CCW_COUNT_MAXIMUM.into()),
+        ("CHANNEL_KEY_MAXIMUM", CHANNEL_KEY_MAXIMUM.into()),
+        ("GRANT_MAXIMUM", GRANT_MAXIMUM.into()),
+        ("PROGRESS_LENGTH", PROGRESS_LENGTH as u64),
+        ("PROGRESS_NOT_BEGUN", PROGRESS_NOT_BEGUN.into()),
+        ("PROGRESS_UNDER_WAY", PROGRESS_UNDER_WAY.into()),
+        ("PROGRESS_ENDED", PROGRESS_ENDED.into()),
+        ("CHAINING_FIRST", CHAINING_FIRST.into()),
+        ("CHAINING_COMMAND", CHAINING_COMMAND.into()),
+        ("CHAINING_TRANSFER", CHAINING_TRANSFER.into()),
+        ("CHAINING_ENDED", CHAINING_ENDED.into()),
     ]);
     let mut found = numbers();
+    for refusal in ChannelRefusal::ALL {
+        let number = found.get(format!("NUMBER_{}", channel_name(refusal)).as_str());
+        assert_eq!(number, Some(&refusal.number().into()), "{refusal:?}");
+    }
+    for refusal in &ChannelRefusal::ALL[1..] {
+        found.remove(format!("NUMBER_{}", channel_name(*refusal)).as_str());
+    }
     for reason in Reason::ALL {
         let number = found.remove(format!("NUMBER_{}", name(reason)).as_str());
         assert_eq!(number, Some(reason.number().into()), "{reason:?}");
@@ -112,15 +149,47 @@ fn numbers_are_those_of_the_header() {
     assert!(expected.is_empty(), "not in the header: {expected:?}");
 }
 
-/// `storage_unit_message` has the same text for each number.
+/// The texts of a function of the header, by the names of its cases without [`NAME`].
+fn texts(function: &str) -> BTreeMap<&'static str, &'static str> {
+    let start = format!("static inline const char *{function}(");
+    let (_, after) = HEADER.split_once(&start).expect("a function of the header");
+    let (body, _) = after.split_once("default:").expect("the last case");
+    body.split("case ")
+        .skip(1)
+        .map(|case| {
+            let (name, after) = case.split_once(':').expect("the name of a case");
+            let name = name.strip_prefix(NAME).expect("a name of the header");
+            (name, after.split('"').nth(1).expect("the text of a case"))
+        })
+        .collect()
+}
+
+/// `storage_unit_message` has the same text for each number, and there are no others.
 #[test]
 fn texts_are_those_of_the_header() {
+    let mut found = texts("storage_unit_message");
     for reason in Reason::ALL {
-        let case = format!("case {NAME}NUMBER_{}:", name(reason));
-        let (_, after) = HEADER.split_once(&case).expect("a case of the message");
-        let text = after.split('"').nth(1).expect("the text of the message");
-        assert_eq!(reason.to_string(), text);
+        let text = found.remove(format!("NUMBER_{}", name(reason)).as_str());
+        assert_eq!(text, Some(reason.to_string().as_str()));
     }
+    assert_eq!(found, BTreeMap::from([("NUMBER_COMPLETED", "completed")]));
+}
+
+/// So has `storage_unit_channel_message`; the text of a refusal has its number too.
+#[test]
+fn texts_of_the_channel_are_those_of_the_header() {
+    let mut found = texts("storage_unit_channel_message");
+    for refusal in ChannelRefusal::ALL {
+        let name = format!("NUMBER_{}", channel_name(refusal));
+        let text = found.remove(name.as_str()).expect("the text of a refusal");
+        let whole = format!("{text} (number {})", refusal.number());
+        assert_eq!(refusal.to_string(), whole);
+    }
+    let others = [
+        ("NUMBER_COMPLETED", "completed"),
+        ("NUMBER_UNDER_WAY", "under way"),
+    ];
+    assert_eq!(found, BTreeMap::from(others));
 }
 
 /// The library and the header have the version of this crate.

@@ -644,6 +644,540 @@ static void play_refused(void)
     CHECK(player.requests == UINT64_MAX);
 }
 
+/* ---- Channel programs. */
+
+#define CCWS        4096u /* where programs stand: in unit 2 */
+#define DEVICE_SIZE 16u
+
+/* The bytes from the device are in read-only memory. */
+static const uint8_t from_device[DEVICE_SIZE] = {
+    0xE0, 0xE1, 0xE2, 0xE3, 0xE4, 0xE5, 0xE6, 0xE7, 0xE8, 0xE9, 0xEA, 0xEB, 0xEC, 0xED, 0xEE, 0xEF,
+};
+static uint8_t to_device[DEVICE_SIZE];
+
+/* All that a channel program may write, its progress apart. */
+struct channel_state {
+    uint8_t storage[STORAGE_LENGTH];
+    uint8_t keys[STORAGE_LENGTH / STORAGE_UNIT_KEY_UNIT_2K];
+    uint8_t to_device[DEVICE_SIZE];
+};
+
+static void save(struct channel_state *state)
+{
+    memcpy(state->storage, storage, sizeof storage);
+    memcpy(state->keys, keys, sizeof keys);
+    memcpy(state->to_device, to_device, sizeof to_device);
+}
+
+static void restore(const struct channel_state *state)
+{
+    memcpy(storage, state->storage, sizeof storage);
+    memcpy(keys, state->keys, sizeof keys);
+    memcpy(to_device, state->to_device, sizeof to_device);
+}
+
+static int is_as_saved(const struct channel_state *state)
+{
+    return memcmp(storage, state->storage, sizeof storage) == 0
+           && memcmp(keys, state->keys, sizeof keys) == 0
+           && memcmp(to_device, state->to_device, sizeof to_device) == 0;
+}
+
+/* Zero storage, keys hex 31, which have the bit on that a written key has not, room of bytes hex CC. */
+static void channel_start(void)
+{
+    start();
+    memset(keys, 0x31, sizeof keys);
+    memset(to_device, 0xCC, sizeof to_device);
+}
+
+/* The CCW with this number, counted from 0. */
+static void ccw(uint32_t n, uint8_t command, uint32_t address, uint8_t flags, uint16_t count)
+{
+    storage_unit_put_ccw(storage + CCWS + STORAGE_UNIT_CCW_LENGTH * n, command, address, flags, count);
+}
+
+/* The program at CCWS under key 3, with the greatest grant. */
+static struct storage_unit_program program_of_tests(void)
+{
+    struct storage_unit_program program;
+
+    program.key = 3;
+    program.first = CCWS;
+    program.grant = STORAGE_UNIT_GRANT_MAXIMUM;
+    program.from = from_device;
+    program.from_length = sizeof from_device;
+    program.room = to_device;
+    program.room_length = sizeof to_device;
+    return program;
+}
+
+/* A progress of bytes that no call looks at before a whole program, and one that is not begun. */
+static struct storage_unit_progress progress_of(int byte)
+{
+    struct storage_unit_progress progress;
+
+    memset(&progress, byte, sizeof progress);
+    return progress;
+}
+
+/* Place, word and rule are 0; the number comes back. */
+static uint32_t channel_number(uint64_t answer)
+{
+    CHECK(storage_unit_place(answer) == 0 && storage_unit_word(answer) == 0);
+    CHECK(storage_unit_rule(answer) == STORAGE_UNIT_RULE_NONE);
+    return storage_unit_number(answer);
+}
+
+/* The status of a progress behind an answer or a step with this number. */
+static uint8_t status_of(uint32_t answered)
+{
+    switch (answered) {
+    case STORAGE_UNIT_NUMBER_COMPLETED:
+        return STORAGE_UNIT_PROGRESS_ENDED;
+    case STORAGE_UNIT_NUMBER_UNDER_WAY:
+        return STORAGE_UNIT_PROGRESS_UNDER_WAY;
+    default:
+        return (uint8_t)answered;
+    }
+}
+
+/*
+ * Runs a program as a whole, and from the same start step by step, which answers and leaves the
+ * same. The number comes back. A further step gives it again and changes nothing.
+ */
+static uint32_t run_both(const struct storage_unit_machine *machine,
+                         const struct storage_unit_program *program,
+                         struct storage_unit_progress *progress)
+{
+    static struct channel_state at_start, at_end;
+    struct storage_unit_progress stepped = progress_of(0);
+    uint32_t whole, steps = 0, one;
+
+    save(&at_start);
+    *progress = progress_of(0x77);
+    whole = channel_number(storage_unit_run_program(machine, program, progress));
+    CHECK(progress->status == status_of(whole));
+    CHECK(progress->zeros[0] == 0 && progress->zeros[1] == 0);
+    CHECK(progress->more_zeros[0] == 0 && progress->more_zeros[1] == 0);
+    CHECK(progress->more_zeros[2] == 0 && progress->more_zeros[3] == 0);
+    save(&at_end);
+
+    restore(&at_start);
+    do {
+        one = channel_number(storage_unit_step_program(machine, program, &stepped));
+        steps++;
+        CHECK(stepped.status == status_of(one));
+        CHECK(one != STORAGE_UNIT_NUMBER_UNDER_WAY || stepped.fetched == steps);
+    } while (one == STORAGE_UNIT_NUMBER_UNDER_WAY && steps <= STORAGE_UNIT_GRANT_MAXIMUM);
+    CHECK(one == whole && is_as_saved(&at_end));
+    CHECK(memcmp(&stepped, progress, sizeof stepped) == 0);
+    CHECK(steps == stepped.fetched || steps == stepped.fetched + 1);
+
+    CHECK(channel_number(storage_unit_step_program(machine, program, &stepped)) == whole);
+    CHECK(is_as_saved(&at_end) && memcmp(&stepped, progress, sizeof stepped) == 0);
+    return whole;
+}
+
+/* A text for each number of a channel program, and one text for all other numbers. */
+static void channel_messages(void)
+{
+    static const struct {
+        uint32_t number;
+        const char *text;
+    } texts[] = {
+        {STORAGE_UNIT_NUMBER_COMPLETED, "completed"},
+        {STORAGE_UNIT_NUMBER_CONFIGURATION, "configuration: "},
+        {STORAGE_UNIT_NUMBER_CHANNEL_KEY, "the key of the channel is over 15"},
+        {STORAGE_UNIT_NUMBER_GRANT, "the grant is not 1 to 256"},
+        {STORAGE_UNIT_NUMBER_PROGRAM, "program check"},
+        {STORAGE_UNIT_NUMBER_FORBIDDEN, "protection check"},
+        {STORAGE_UNIT_NUMBER_DEVICE, "too few bytes from the device"},
+        {STORAGE_UNIT_NUMBER_GRANT_USED, "the granted CCWs are used up"},
+        {STORAGE_UNIT_NUMBER_UNDER_WAY, "under way"},
+    };
+    const size_t count = sizeof texts / sizeof texts[0];
+    const char *other = storage_unit_channel_message(UINT32_MAX);
+    uint32_t n;
+    size_t i;
+
+    CHECK(strcmp(other, storage_unit_message(UINT32_MAX)) == 0);
+    for (n = 0; n < 1000; n++) {
+        const char *text = storage_unit_channel_message(n);
+
+        for (i = 0; i < count && texts[i].number != n; i++) {
+        }
+        CHECK((strcmp(text, other) == 0) == (i == count));
+        CHECK(i == count || strncmp(text, texts[i].text, strlen(texts[i].text)) == 0);
+    }
+}
+
+/* The bytes of a CCW, and those of a progress. */
+static void channel_bytes(void)
+{
+    static const uint8_t made[STORAGE_UNIT_CCW_LENGTH] = {0x02, 0x34, 0x56, 0x78, 0x40, 0, 0xAB, 0xCD};
+    static const uint8_t left[STORAGE_UNIT_PROGRESS_LENGTH] = {
+        0x18, 0x10, 0, 0, STORAGE_UNIT_CHAINING_COMMAND, STORAGE_UNIT_NUMBER_GRANT_USED, 0, 0,
+        3, 0, 0, 0, 0, 0, 0, 0, 4, 0, 0, 0, 0, 0, 0, 0, 3, 0, 0, 0, 0, 0, 0, 0,
+    };
+    struct storage_unit_machine machine = machine_of_tests();
+    struct storage_unit_program program = program_of_tests();
+    struct storage_unit_progress progress;
+    uint8_t bytes[STORAGE_UNIT_CCW_LENGTH];
+
+    memset(bytes, 0xEE, sizeof bytes);
+    storage_unit_put_ccw(bytes, STORAGE_UNIT_CCW_READ, 0x12345678, STORAGE_UNIT_CCW_CHAIN_COMMAND,
+                         0xABCD);
+    CHECK(memcmp(bytes, made, sizeof bytes) == 0);
+
+    CHECK(sizeof progress == STORAGE_UNIT_PROGRESS_LENGTH);
+    channel_start();
+    ccw(0, STORAGE_UNIT_CCW_READ, 0, STORAGE_UNIT_CCW_CHAIN_COMMAND, 4);
+    ccw(1, STORAGE_UNIT_CCW_WRITE, 0, STORAGE_UNIT_CCW_CHAIN_COMMAND, 2);
+    ccw(2, STORAGE_UNIT_CCW_WRITE, 0, STORAGE_UNIT_CCW_CHAIN_COMMAND, 1);
+    program.grant = 3;
+    CHECK(run_both(&machine, &program, &progress) == STORAGE_UNIT_NUMBER_GRANT_USED);
+    CHECK(memcmp(&progress, left, sizeof progress) == 0);
+}
+
+/* A program that reads over the end of a unit, goes on by a transfer in channel, and writes. */
+static void channel_completed(void)
+{
+    struct storage_unit_machine machine = machine_of_tests();
+    struct storage_unit_program program = program_of_tests();
+    struct storage_unit_progress progress;
+    uint64_t answer;
+
+    channel_start();
+    ccw(0, STORAGE_UNIT_CCW_READ, 2046, STORAGE_UNIT_CCW_CHAIN_COMMAND, 4);
+    ccw(1, 0xF0 | STORAGE_UNIT_CCW_TRANSFER, CCWS + 24, 0xFF, 0);
+    ccw(3, STORAGE_UNIT_CCW_WRITE, 2047, STORAGE_UNIT_CCW_CHAIN_COMMAND, 2);
+    ccw(4, STORAGE_UNIT_CCW_READ, STORAGE_LENGTH - 1, 0, 1);
+    CHECK(run_both(&machine, &program, &progress) == STORAGE_UNIT_NUMBER_COMPLETED);
+    CHECK(progress.address == CCWS + 40 && progress.chaining == STORAGE_UNIT_CHAINING_ENDED);
+    CHECK(progress.fetched == 4 && progress.taken == 5 && progress.given == 2);
+    CHECK(storage[2045] == 0 && storage[2046] == 0xE0 && storage[2049] == 0xE3 && storage[2050] == 0);
+    CHECK(storage[STORAGE_LENGTH - 1] == 0xE4);
+    CHECK(to_device[0] == 0xE1 && to_device[1] == 0xE2 && to_device[2] == 0xCC);
+    CHECK(keys[0] == 0x36 && keys[1] == 0x36 && keys[2] == 0x34 && keys[3] == 0x36);
+
+    /* Each step of it. */
+    channel_start();
+    ccw(0, STORAGE_UNIT_CCW_READ, 2046, STORAGE_UNIT_CCW_CHAIN_COMMAND, 4);
+    ccw(1, STORAGE_UNIT_CCW_TRANSFER, CCWS + 24, 0, 0);
+    ccw(3, STORAGE_UNIT_CCW_WRITE, 2047, 0, 2);
+    progress = progress_of(0);
+    answer = storage_unit_step_program(&machine, &program, &progress);
+    CHECK(channel_number(answer) == STORAGE_UNIT_NUMBER_UNDER_WAY);
+    CHECK(progress.address == CCWS + 8 && progress.chaining == STORAGE_UNIT_CHAINING_COMMAND);
+    CHECK(progress.fetched == 1 && progress.taken == 4 && progress.given == 0);
+    answer = storage_unit_step_program(&machine, &program, &progress);
+    CHECK(channel_number(answer) == STORAGE_UNIT_NUMBER_UNDER_WAY);
+    CHECK(progress.address == CCWS + 24 && progress.chaining == STORAGE_UNIT_CHAINING_TRANSFER);
+    CHECK(progress.fetched == 2 && progress.taken == 4 && progress.given == 0);
+    answer = storage_unit_step_program(&machine, &program, &progress);
+    CHECK(channel_number(answer) == STORAGE_UNIT_NUMBER_COMPLETED);
+    CHECK(progress.fetched == 3 && progress.given == 2);
+
+    /* With 4K units, whose keys are half as many. */
+    channel_start();
+    ccw(0, STORAGE_UNIT_CCW_READ, 2046, 0, 4);
+    machine.settings = STORAGE_UNIT_4K;
+    machine.keys_length = 2;
+    CHECK(run_both(&machine, &program, &progress) == STORAGE_UNIT_NUMBER_COMPLETED);
+    CHECK(keys[0] == 0x36 && keys[1] == 0x34 && keys[2] == 0x31);
+}
+
+/*
+ * The program is refused with this number after so many CCWs. Nothing has changed but the key of
+ * the CCWs' unit, and that only if one was fetched.
+ */
+static void refused(const struct storage_unit_machine *machine,
+                    const struct storage_unit_program *program, uint32_t expected, uint32_t fetched)
+{
+    static struct channel_state state;
+    struct storage_unit_progress progress;
+
+    save(&state);
+    CHECK(run_both(machine, program, &progress) == expected);
+    CHECK(progress.fetched == fetched && progress.address == program->first);
+    CHECK(progress.chaining == STORAGE_UNIT_CHAINING_FIRST);
+    CHECK(progress.taken == 0 && progress.given == 0);
+    if (fetched > 0) {
+        state.keys[CCWS / STORAGE_UNIT_KEY_UNIT_2K] &= 0xFE;
+        state.keys[CCWS / STORAGE_UNIT_KEY_UNIT_2K] |= STORAGE_UNIT_KEY_REFERENCE;
+    }
+    CHECK(is_as_saved(&state));
+}
+
+/* The same for a program of one CCW. */
+static void refused_ccw(uint8_t command, uint32_t address, uint8_t flags, uint16_t count,
+                        uint32_t expected)
+{
+    struct storage_unit_machine machine = machine_of_tests();
+    struct storage_unit_program program = program_of_tests();
+
+    channel_start();
+    keys[0] = 0x40;
+    keys[1] = 0x40 | STORAGE_UNIT_KEY_FETCH_PROTECTION;
+    ccw(0, command, address, flags, count);
+    refused(&machine, &program, expected, 1);
+}
+
+/* Each number that is given, and the order of them. */
+static void channel_numbers(void)
+{
+    struct storage_unit_machine machine = machine_of_tests(), other;
+    struct storage_unit_program program = program_of_tests(), wrong;
+    struct storage_unit_progress progress;
+
+    channel_start();
+    ccw(0, STORAGE_UNIT_CCW_READ, 0, 0, 1);
+    wrong = program;
+    wrong.key = STORAGE_UNIT_CHANNEL_KEY_MAXIMUM + 1;
+    wrong.grant = STORAGE_UNIT_GRANT_MAXIMUM + 1;
+    wrong.first = 1;
+    other = machine;
+    other.keys_length--;
+    refused(&other, &wrong, STORAGE_UNIT_NUMBER_CONFIGURATION, 0);
+    other = machine;
+    other.storage_length--;
+    refused(&other, &wrong, STORAGE_UNIT_NUMBER_CONFIGURATION, 0);
+    refused(&machine, &wrong, STORAGE_UNIT_NUMBER_CHANNEL_KEY, 0);
+    wrong.key = STORAGE_UNIT_CHANNEL_KEY_MAXIMUM;
+    refused(&machine, &wrong, STORAGE_UNIT_NUMBER_GRANT, 0);
+    wrong.grant = 0;
+    refused(&machine, &wrong, STORAGE_UNIT_NUMBER_GRANT, 0);
+    wrong.grant = STORAGE_UNIT_GRANT_MAXIMUM;
+    refused(&machine, &wrong, STORAGE_UNIT_NUMBER_PROGRAM, 0);
+    wrong.first = STORAGE_LENGTH;
+    refused(&machine, &wrong, STORAGE_UNIT_NUMBER_PROGRAM, 0);
+    wrong.first = STORAGE_UNIT_STORAGE_MAXIMUM + CCWS;
+    refused(&machine, &wrong, STORAGE_UNIT_NUMBER_PROGRAM, 0);
+    keys[2] = 0x41 | STORAGE_UNIT_KEY_FETCH_PROTECTION;
+    refused(&machine, &program, STORAGE_UNIT_NUMBER_FORBIDDEN, 0);
+
+    /* Keys 4 of units 0 and 1, of which unit 1 has fetch protection, forbid key 3. */
+    refused_ccw(0x03, 0, 0, 1, STORAGE_UNIT_NUMBER_PROGRAM);
+    refused_ccw(0x04, 0, 0, 1, STORAGE_UNIT_NUMBER_PROGRAM);
+    refused_ccw(STORAGE_UNIT_CCW_TRANSFER, CCWS, 0, 1, STORAGE_UNIT_NUMBER_PROGRAM);
+    refused_ccw(STORAGE_UNIT_CCW_READ, CCWS, 0x80, 1, STORAGE_UNIT_NUMBER_PROGRAM);
+    refused_ccw(STORAGE_UNIT_CCW_READ, CCWS, 0, 0, STORAGE_UNIT_NUMBER_PROGRAM);
+    refused_ccw(STORAGE_UNIT_CCW_READ, STORAGE_LENGTH - 16, 0, 17, STORAGE_UNIT_NUMBER_PROGRAM);
+    refused_ccw(STORAGE_UNIT_CCW_WRITE, 0xFFFFFF, 0, STORAGE_UNIT_CCW_COUNT_MAXIMUM,
+                STORAGE_UNIT_NUMBER_PROGRAM);
+    refused_ccw(STORAGE_UNIT_CCW_READ, 0, 0, DEVICE_SIZE + 1, STORAGE_UNIT_NUMBER_DEVICE);
+    refused_ccw(STORAGE_UNIT_CCW_WRITE, 2048, 0, DEVICE_SIZE + 1, STORAGE_UNIT_NUMBER_DEVICE);
+    refused_ccw(STORAGE_UNIT_CCW_READ, 0, 0, DEVICE_SIZE, STORAGE_UNIT_NUMBER_FORBIDDEN);
+    refused_ccw(STORAGE_UNIT_CCW_WRITE, 2047, 0, 2, STORAGE_UNIT_NUMBER_FORBIDDEN);
+    refused_ccw(STORAGE_UNIT_CCW_READ, CCWS - 1, 0, 2, STORAGE_UNIT_NUMBER_FORBIDDEN);
+
+    /* The granted CCWs, in a row and in a loop; what was done stands. */
+    channel_start();
+    ccw(0, STORAGE_UNIT_CCW_READ, 0, STORAGE_UNIT_CCW_CHAIN_COMMAND, 1);
+    ccw(1, STORAGE_UNIT_CCW_TRANSFER, CCWS, 0, 0);
+    program.grant = 1;
+    CHECK(run_both(&machine, &program, &progress) == STORAGE_UNIT_NUMBER_GRANT_USED);
+    CHECK(progress.fetched == 1 && progress.address == CCWS + 8 && storage[0] == 0xE0);
+    program.grant = 20;
+    CHECK(run_both(&machine, &program, &progress) == STORAGE_UNIT_NUMBER_GRANT_USED);
+    CHECK(progress.fetched == 20 && progress.taken == 10 && storage[0] == 0xE9);
+    CHECK(progress.address == CCWS && progress.chaining == STORAGE_UNIT_CHAINING_TRANSFER);
+    program.grant = STORAGE_UNIT_GRANT_MAXIMUM;
+    CHECK(run_both(&machine, &program, &progress) == STORAGE_UNIT_NUMBER_DEVICE);
+    CHECK(progress.fetched == 33 && progress.taken == 16 && storage[0] == 0xEF);
+}
+
+typedef uint64_t channel_function(const struct storage_unit_machine *machine,
+                                  const struct storage_unit_program *program, uint8_t *progress,
+                                  size_t progress_length);
+
+static uint64_t whole_of(const struct storage_unit_machine *machine,
+                         const struct storage_unit_program *program, uint8_t *progress,
+                         size_t progress_length)
+{
+    return storage_unit_channel(machine->settings, machine->storage, machine->storage_length,
+                                machine->keys, machine->keys_length, program->key, program->first,
+                                program->grant, program->from, program->from_length, program->room,
+                                program->room_length, progress, progress_length);
+}
+
+static uint64_t step_of(const struct storage_unit_machine *machine,
+                        const struct storage_unit_program *program, uint8_t *progress,
+                        size_t progress_length)
+{
+    return storage_unit_channel_step(machine->settings, machine->storage, machine->storage_length,
+                                     machine->keys, machine->keys_length, program->key,
+                                     program->first, program->grant, program->from,
+                                     program->from_length, program->room, program->room_length,
+                                     progress, progress_length);
+}
+
+/* A call with this progress answers with this number, and changes nothing, the progress neither. */
+static void changes_nothing(channel_function *function, const struct storage_unit_machine *machine,
+                            const uint8_t *bytes, size_t length, uint32_t expected)
+{
+    static struct channel_state state;
+    struct storage_unit_program program = program_of_tests();
+    uint8_t progress[64];
+
+    save(&state);
+    memcpy(progress, bytes, sizeof progress);
+    CHECK(channel_number(function(machine, &program, progress, length)) == expected);
+    CHECK(is_as_saved(&state) && memcmp(progress, bytes, sizeof progress) == 0);
+}
+
+/* A progress that is none: 65, or 64 where the lengths are wrong. Settings with another bit on: 64. */
+static void channel_wrong_progress(void)
+{
+    struct storage_unit_machine machine = machine_of_tests(), other;
+    uint8_t bytes[64];
+    size_t length, place;
+    uint32_t byte;
+
+    channel_start();
+    ccw(0, STORAGE_UNIT_CCW_READ, 0, 0, 1);
+    other = machine;
+    other.keys_length--;
+    memset(bytes, 0, sizeof bytes);
+    for (length = 0; length <= sizeof bytes; length++) {
+        if (length == STORAGE_UNIT_PROGRESS_LENGTH) {
+            continue;
+        }
+        changes_nothing(whole_of, &machine, bytes, length, STORAGE_UNIT_NUMBER_CHANNEL_KEY);
+        changes_nothing(step_of, &machine, bytes, length, STORAGE_UNIT_NUMBER_CHANNEL_KEY);
+        changes_nothing(whole_of, &other, bytes, length, STORAGE_UNIT_NUMBER_CONFIGURATION);
+        changes_nothing(step_of, &other, bytes, length, STORAGE_UNIT_NUMBER_CONFIGURATION);
+    }
+    length = STORAGE_UNIT_PROGRESS_LENGTH;
+    for (place = 4; place < 16; place++) {
+        if (place >= 8 && place < 12) {
+            continue; /* the number of CCWs fetched: any */
+        }
+        for (byte = 0; byte < 256; byte++) {
+            int is_status = byte <= 2 || (byte >= 64 && byte <= 66) || (byte >= 71 && byte <= 74);
+
+            if (place == 4 ? byte <= 3 : place == 5 ? is_status : byte == 0) {
+                continue;
+            }
+            memset(bytes, 0, sizeof bytes);
+            bytes[place] = (uint8_t)byte;
+            changes_nothing(step_of, &machine, bytes, length, STORAGE_UNIT_NUMBER_CHANNEL_KEY);
+            changes_nothing(step_of, &other, bytes, length, STORAGE_UNIT_NUMBER_CONFIGURATION);
+        }
+    }
+    /* A program that has its answer, also where the lengths are wrong. */
+    memset(bytes, 0x5A, sizeof bytes);
+    memset(bytes + 12, 0, 4);
+    bytes[4] = STORAGE_UNIT_CHAINING_ENDED;
+    bytes[5] = STORAGE_UNIT_PROGRESS_ENDED;
+    bytes[6] = 0;
+    bytes[7] = 0;
+    changes_nothing(step_of, &machine, bytes, length, STORAGE_UNIT_NUMBER_COMPLETED);
+    changes_nothing(step_of, &other, bytes, length, STORAGE_UNIT_NUMBER_COMPLETED);
+    bytes[5] = STORAGE_UNIT_NUMBER_DEVICE;
+    changes_nothing(step_of, &other, bytes, length, STORAGE_UNIT_NUMBER_DEVICE);
+
+    /* Settings come first, whatever the progress is. */
+    for (byte = 4; byte != 0; byte <<= 1) {
+        machine.settings = byte;
+        changes_nothing(whole_of, &machine, bytes, length, STORAGE_UNIT_NUMBER_CONFIGURATION);
+        changes_nothing(step_of, &machine, bytes, length, STORAGE_UNIT_NUMBER_CONFIGURATION);
+        changes_nothing(step_of, &machine, bytes, length - 1, STORAGE_UNIT_NUMBER_CONFIGURATION);
+    }
+}
+
+/* A progress that is made up: a transfer in channel is allowed by chain command and not else. */
+static void channel_made_up(void)
+{
+    struct storage_unit_machine machine = machine_of_tests();
+    struct storage_unit_program program = program_of_tests();
+    uint8_t chaining;
+
+    for (chaining = 0; chaining <= STORAGE_UNIT_CHAINING_ENDED; chaining++) {
+        int allowed = chaining == STORAGE_UNIT_CHAINING_COMMAND;
+        struct storage_unit_progress progress = progress_of(0);
+
+        channel_start();
+        ccw(0, STORAGE_UNIT_CCW_TRANSFER, CCWS + 8, 0, 0);
+        progress.address = CCWS;
+        progress.chaining = chaining;
+        progress.status = STORAGE_UNIT_PROGRESS_UNDER_WAY;
+        progress.taken = UINT64_MAX;
+        CHECK(channel_number(storage_unit_step_program(&machine, &program, &progress))
+              == (allowed ? STORAGE_UNIT_NUMBER_UNDER_WAY : STORAGE_UNIT_NUMBER_PROGRAM));
+        CHECK(progress.chaining == (allowed ? STORAGE_UNIT_CHAINING_TRANSFER : chaining));
+        CHECK(progress.fetched == 1 && progress.taken == UINT64_MAX && keys[2] == 0x34);
+    }
+}
+
+/* Where a length is 0 the pointer may be null. */
+static void channel_null(void)
+{
+    struct storage_unit_machine machine = machine_of_tests();
+    struct storage_unit_program program = program_of_tests();
+    struct storage_unit_progress progress;
+
+    program.from = NULL;
+    program.from_length = 0;
+    channel_start();
+    ccw(0, STORAGE_UNIT_CCW_WRITE, CCWS, 0, 8);
+    CHECK(run_both(&machine, &program, &progress) == STORAGE_UNIT_NUMBER_COMPLETED);
+    CHECK(memcmp(to_device, storage + CCWS, 8) == 0 && to_device[8] == 0xCC);
+    channel_start();
+    ccw(0, STORAGE_UNIT_CCW_READ, 0, 0, 1);
+    refused(&machine, &program, STORAGE_UNIT_NUMBER_DEVICE, 1);
+
+    program = program_of_tests();
+    program.room = NULL;
+    program.room_length = 0;
+    channel_start();
+    ccw(0, STORAGE_UNIT_CCW_READ, 0, 0, DEVICE_SIZE);
+    CHECK(run_both(&machine, &program, &progress) == STORAGE_UNIT_NUMBER_COMPLETED);
+    CHECK(memcmp(storage, from_device, sizeof from_device) == 0);
+    channel_start();
+    ccw(0, STORAGE_UNIT_CCW_WRITE, 0, 0, 1);
+    refused(&machine, &program, STORAGE_UNIT_NUMBER_DEVICE, 1);
+
+    CHECK(channel_number(whole_of(&machine, &program, NULL, 0)) == STORAGE_UNIT_NUMBER_CHANNEL_KEY);
+    CHECK(channel_number(step_of(&machine, &program, NULL, 0)) == STORAGE_UNIT_NUMBER_CHANNEL_KEY);
+    memset(&machine, 0, sizeof machine);
+    memset(&program, 0, sizeof program);
+    CHECK(channel_number(whole_of(&machine, &program, NULL, 0)) == STORAGE_UNIT_NUMBER_CONFIGURATION);
+    CHECK(channel_number(step_of(&machine, &program, NULL, 0)) == STORAGE_UNIT_NUMBER_CONFIGURATION);
+}
+
+/* A processor stores the CCW to come between two steps; and a read of the program does it. */
+static void channel_between_steps(void)
+{
+    static uint8_t stored[2 * STORAGE_UNIT_CCW_LENGTH];
+    struct storage_unit_machine machine = machine_of_tests();
+    struct storage_unit_program program = program_of_tests();
+    struct storage_unit_progress progress = progress_of(0);
+
+    channel_start();
+    ccw(0, STORAGE_UNIT_CCW_READ, 0, STORAGE_UNIT_CCW_CHAIN_COMMAND, 2);
+    CHECK(channel_number(storage_unit_step_program(&machine, &program, &progress))
+          == STORAGE_UNIT_NUMBER_UNDER_WAY);
+    storage_unit_put_ccw(stored, STORAGE_UNIT_CCW_WRITE, 1, 0, 1);
+    CHECK(is_completed(storage_unit_store_bytes(&machine, 0, CCWS + 8, stored,
+                                                STORAGE_UNIT_CCW_LENGTH)));
+    CHECK(channel_number(storage_unit_step_program(&machine, &program, &progress))
+          == STORAGE_UNIT_NUMBER_COMPLETED);
+    CHECK(to_device[0] == 0xE1 && to_device[1] == 0xCC && progress.fetched == 2);
+    CHECK(keys[0] == 0x36 && keys[2] == 0x36);
+
+    /* It reads over itself and over the CCW behind it. */
+    channel_start();
+    storage_unit_put_ccw(stored + STORAGE_UNIT_CCW_LENGTH, STORAGE_UNIT_CCW_WRITE, CCWS + 8, 0, 8);
+    ccw(0, STORAGE_UNIT_CCW_READ, CCWS, STORAGE_UNIT_CCW_CHAIN_COMMAND, sizeof stored);
+    program.from = stored;
+    program.from_length = sizeof stored;
+    CHECK(run_both(&machine, &program, &progress) == STORAGE_UNIT_NUMBER_COMPLETED);
+    CHECK(progress.fetched == 2 && progress.taken == 16 && progress.given == 8);
+    CHECK(memcmp(to_device, stored + STORAGE_UNIT_CCW_LENGTH, STORAGE_UNIT_CCW_LENGTH) == 0);
+}
+
 /* ---- Random requests, by storage_unit_request and by the functions of a machine. */
 
 #define RANDOM_LENGTH   12288u
@@ -982,6 +1516,14 @@ int main(void)
     play_room();
     play_short_buffer();
     play_refused();
+    channel_messages();
+    channel_bytes();
+    channel_completed();
+    channel_numbers();
+    channel_wrong_progress();
+    channel_made_up();
+    channel_null();
+    channel_between_steps();
     random_requests();
     return failures == 0 ? 0 : 1;
 }

@@ -2,6 +2,8 @@
 //! the progress of the C functions. Each runs by the reference, by the plain channel and by the
 //! proved one, as a whole and step by step.
 
+use std::thread;
+
 use storage_unit::boundary::{RawChannel, call_channel_raw};
 use storage_unit_comparison::ChannelUnit;
 use storage_unit_comparison::channel::{self, Ccw, Request};
@@ -870,6 +872,28 @@ for_each_channel! {
     changed_between_steps
     made_up_chaining
     answered_and_wrong_lengths
+}
+
+/// The longest program in a thread whose stack is little more than the 128 KB that the header asks
+/// for. In a shorter one the process would end here.
+#[test]
+fn stack_of_a_whole_program() {
+    let thread = thread::Builder::new().stack_size((128 + 8) * 1024);
+    let run = || {
+        let mut lent = with(&[ccw(WRITE, 0, CHAIN, 1); 256]);
+        lent.room.resize(300, 0xCC);
+        let mut progress = [0; 32];
+        let packed = <ByFunctions<Proved> as Channel>::call(
+            Function::Whole,
+            &mut lent,
+            request(),
+            &mut progress,
+        );
+        reached(packed, &progress)
+    };
+    let end = thread.spawn(run).expect("a thread").join();
+    let end = end.expect("an answer");
+    assert_eq!((end.number, end.fetched, end.given), (74, 256, 256));
 }
 
 /// The bytes of a CCW and its parts.

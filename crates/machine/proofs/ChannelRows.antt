@@ -134,6 +134,14 @@ twoTransfers = ccw 1 0 8 0 0x40 0 1 ++ ccw 8 0 0 0x10 0 0 0 ++ ccw 8 0 0 0 0 0 0
 abbrev loop : List ℕ
 loop = ccw 1 0 8 0 0x40 0 1 ++ ccw 8 0 0 0 0 0 0
 
+-- read two bytes to hex 800, and two more
+abbrev readTwice : List ℕ
+readTwice = ccw 2 0 8 0 0x40 0 2 ++ ccw 2 0 8 0 0 0 2
+
+-- write a byte, and go to address 4
+abbrev toOddAddress : List ℕ
+toOddAddress = ccw 1 0 8 0 0x40 0 1 ++ ccw 8 0 0 4 0 0 0
+
 -- read the next CCW from the device
 abbrev reads : List ℕ
 reads = ccw 2 0 0 8 0x40 0 8
@@ -159,6 +167,10 @@ rows =
     ∷ (in2K byTransfer K 0 8 2 device 4, seen 71 1 8 First 0 0 F (7 ∷ 7 ∷ 7 ∷ 7 ∷ []) Z)
     ∷ (in2K twoTransfers K 0 0 4 [] 1, seen 71 3 0x10 Transfer 0 1 (4 ∷ 4 ∷ []) (0 ∷ []) Z)
     ∷ (in2K loop K 0 0 5 [] 4, seen 74 5 8 Command 0 3 (4 ∷ 4 ∷ []) (0 ∷ 0 ∷ 0 ∷ 7 ∷ []) Z)
+    -- two reads take the bytes one after the other; bytes and room that earlier CCWs used are gone
+    ∷ (in2K readTwice K 0 0 2 device 0, seen 0 2 16 Ended 4 0 (4 ∷ 6 ∷ []) [] (0 ∷ 0 ∷ 3 ∷ 4 ∷ []))
+    ∷ (in2K readTwice K 0 0 2 (1 ∷ 2 ∷ 3 ∷ []) 0, seen 73 2 8 Command 2 0 (4 ∷ 6 ∷ []) [] (0 ∷ 0 ∷ 1 ∷ 2 ∷ []))
+    ∷ (in2K loop K 0 0 9 [] 2, seen 73 5 0 Transfer 0 2 (4 ∷ 4 ∷ []) (0 ∷ 0 ∷ []) Z)
     -- a CCW is fetched when its turn comes: the one that was read is obeyed
     ∷ (in2K reads K 0 0 3 (ccw 1 0 0 8 0 0 2) 2, seen 0 2 16 Ended 8 2 (6 ∷ 0 ∷ []) (1 ∷ 0 ∷ []) Z)
     -- 64, 65, 66 and their order
@@ -166,7 +178,9 @@ rows =
     ∷ (in2K readWrite K 16 0 0 device 0, seen 65 0 0 First 0 0 K [] Z)
     ∷ (in2K readWrite K 15 4 0 device 0, seen 66 0 4 First 0 0 K [] Z)
     ∷ (in2K readWrite K 15 4 257 device 0, seen 66 0 4 First 0 0 K [] Z)
-    -- 71 for the address: no multiple of 8, outside, and the last CCW of storage; 74 comes before it
+    -- 71 for the address: no multiple of 8, outside, and the last CCW of storage; 74 comes before it, also where a transfer in channel named it
+    ∷ (in2K toOddAddress K 0 0 2 [] 1, seen 74 2 4 Transfer 0 1 (4 ∷ 4 ∷ []) (0 ∷ []) Z)
+    ∷ (in2K toOddAddress K 0 0 3 [] 1, seen 71 2 4 Transfer 0 1 (4 ∷ 4 ∷ []) (0 ∷ []) Z)
     ∷ (in2K readWrite K 15 4 256 device 0, seen 71 0 4 First 0 0 K [] Z)
     ∷ (in2K readWrite K 15 4096 1 device 0, seen 71 0 4096 First 0 0 K [] Z)
     ∷ (in2K readWrite K 15 0xFFFFFFF8 1 device 0, seen 71 0 0xFFFFFFF8 First 0 0 K [] Z)

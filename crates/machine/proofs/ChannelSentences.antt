@@ -1,5 +1,5 @@
 -- The channel's rules held to the sentences of document 02 (W4): where each part of a CCW stands; when a range is forbidden, and what of keys
--- and bytes an access to it leaves; the seven lines of a CCW in their order, as one list; and that nothing wraps.
+-- and bytes an access to it leaves; and the seven lines of a CCW in their order, as one list.
 -- The proofs go by the verdicts of the lines and by runs of writes. Assumes nothing.
 use Prim.Native.Nat.{ℕ, _+_, _*_, _/_, _%_, _<_, _≤_}
 use mathlib.Core.Path.{_≡_, refl, sym, ap, _∙_}

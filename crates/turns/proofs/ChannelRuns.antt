@@ -1,18 +1,21 @@
 -- A list of one request that runs alone, the channel's: it ends with what the rules say of the whole request, and gives back its answer, its count, the
--- channel's record and both buffers. The turns of the party are the steps of the request, and one that has answered stays as it is.
--- Assumes nothing.
+-- channel's record and both buffers. The turns of the party are the steps of the request, and one that has answered stays as it is. And two requests,
+-- one after the other. Assumes nothing.
 use Prim.Native.Nat.{ℕ, zero, suc, _+_}
 use mathlib.Core.Path.{_≡_, refl, subst, _∙_}
 use mathlib.Core.Bool.{true}
-use mathlib.Core.List.{[], _∷_}
+use mathlib.Core.List.{List, [], _∷_}
 use mathlib.Core.Option.{some}
 use native.Mathlib.Numerals.{add-one}
 use native.Mathlib.Omega.{arith}
 use lib.ListN.{replicate}
 use Rattle.machine.specs.declared.Settings.{Settings}
+use Rattle.machine.specs.declared.Processor.{Processor}
+use Rattle.machine.specs.declared.channel.ChannelReason.the-variants.{Configuration}
+use Rattle.machine.specs.declared.channel.ChannelAnswer.the-variants.{Refused}
 use Rattle.machine.specs.declared.channel.Standing.{Standing}
 use Rattle.machine.specs.declared.channel.Standing.the-variants.{UnderWay, Answered}
-use Rattle.machine.specs.Channel.{Channel, channelValues, channelStep, begun, steps, ChannelOutcome, channelRun}
+use Rattle.machine.specs.Channel.{Channel, channelValues, firstRefusal, beforeFetching, nextCcw, channelStep, begun, steps, ChannelOutcome, channelRun}
 use Rattle.machine.specs.Turns.{State}
 use Rattle.machine.proofs.Verdicts.{not-both}
 use Rattle.turns.specs.Parties.{Joint, turn, alone}
@@ -106,3 +109,23 @@ module _ (s : Settings) (m : State) (t : ChannelTurn) where
         refl,
         rw (came .0, add-one (t .request .grant), e),
       )
+
+-- two requests, where line 64 refuses each: one in each turn, and what they give back stands in their order
+module _ (s : Settings) (ps : List Processor) (t u : ChannelTurn) where
+  abbrev empty : State
+  empty = record { storage = []; keys = []; processors = ps }
+
+  abbrev refusedGiven : ChannelTurn → ChannelGiven
+  refusedGiven r =
+      record {
+        answer = channelValues (Refused Configuration);
+        count = 0;
+        state = begun (r .request) .state;
+        fromDevice = r .fromDevice;
+        room = r .room;
+      }
+
+  pub two-requests : (alone (parties s) (start empty [] [] (t ∷ u ∷ [])) channel 1 .own channel ≡ between (u ∷ []) (refusedGiven t ∷ []))
+      × (alone (parties s) (start empty [] [] (t ∷ u ∷ [])) channel 2 .own channel ≡ between [] (refusedGiven t ∷ refusedGiven u ∷ []))
+  unfolding channelStep nextCcw beforeFetching firstRefusal
+  two-requests = (refl, refl)

@@ -27,7 +27,7 @@ parts done = []
 parts (first o) = processor0 ∷ parts o
 parts (second o) = processor1 ∷ parts o
 
--- the requests left of the two lists, and what the others gave back
+-- the requests left of the two lists, and what those that are done gave back
 abbrev works : List Turn → List Given → List Turn → List Given → Party → Work
 works xs gs ys hs processor0 = requests xs gs
 works xs gs ys hs processor1 = requests ys hs

@@ -1,5 +1,5 @@
 -- Parties that take turns. They share a state, and each has work of its own: the requests left to it, how far the one under way has come, and
--- what the others gave back. How many turns a work takes may depend on what it finds.
+-- what those that are done gave back. How many turns a work takes may depend on what it finds.
 use Prim.Native.Nat.{ℕ, zero, suc}
 use mathlib.Core.Path.{_≡_}
 use mathlib.Core.List.{List, [], _∷_}

@@ -33,7 +33,7 @@ pub record ChannelGiven : Type 0 where
   pub fromDevice : List ℕ
   pub room : List ℕ
 
--- The work of a party: the requests left, and what the others gave back, in their order. The channel has a request under way, with its room and
+-- The work of a party: the requests left, and what those that are done gave back, in their order. The channel has a request under way, with its room and
 -- how far it has come, or it is between two requests
 pub data Work : Type 0 where
   requests : List Turn → List Given → Work

@@ -46,7 +46,7 @@ namedBy (some p) s u m t =
 abbrev pub named : Settings → ℕ → State → Turn → Bool
 named s u m t = namedBy (recordOf (m .processors) (t .processorNumber)) s u m t
 
--- a request that names its units as a fetch: nothing but a fetch does
+-- a request that names its units as a fetch: of a processor's requests only a fetch does
 abbrev pub isFetch : Request → Bool
 isFetch (Access Fetch address count) = true
 isFetch (Access Store address count) = false

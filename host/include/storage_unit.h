@@ -214,16 +214,17 @@ struct storage_unit_player {
  * byte 0        the command: the low bits 01 write to the device, 10 read from it, and the low four
  *               bits 1000 are a transfer in channel: the next CCW is that at its address, and its
  *               flags and count are ignored. The first CCW, and one that a transfer in channel
- *               names, must be none.
+ *               names, must not be a transfer in channel. Other commands are bad.
  * bytes 1 to 3  the address
- * byte 4        flags: hex 40, chain command, goes on with the CCW behind this one; else 0, and the
- *               program ends with it
+ * byte 4        flags: hex 40, chain command, goes on with the CCW behind this one; 0 ends the
+ *               program with it. Other flags are bad.
  * byte 5        ignored
- * bytes 6, 7    the count of bytes, not 0
+ * bytes 6, 7    the count of bytes. 0 is bad.
  *
  * The device is two buffers: the bytes that come from it, which the CCWs that read take one after
  * another from the first on, and room for those that go to it, which is filled from its first byte
- * on. CCWs are fetched one by one, each when its turn comes.
+ * on. CCWs are fetched one by one, each when its turn comes. In the keys, the fetching of a CCW and
+ * data that goes to the device are recorded as a fetch is, data read from it as a store is.
  *
  * The answer of a program is STORAGE_UNIT_NUMBER_COMPLETED where it ended well, else
  * STORAGE_UNIT_NUMBER_CONFIGURATION or one of these numbers; its place, word and rule are 0. Tested
@@ -251,7 +252,11 @@ struct storage_unit_player {
 #define STORAGE_UNIT_CHANNEL_KEY_MAXIMUM 15u
 #define STORAGE_UNIT_GRANT_MAXIMUM       256u
 
-/* How far a program has come: 32 bytes, zeros before it is begun. */
+/*
+ * How far a program has come. Zeros, or any with the status 0, begin one. Where a CCW was refused,
+ * address, chaining, taken and given are as they were before it, and fetched counts it if it was
+ * fetched. On x86-64 the struct is the 32 bytes that the functions take.
+ */
 struct storage_unit_progress {
     uint32_t address;    /* of the CCW to come; after the last, that behind it */
     uint8_t chaining;    /* how control comes to it, STORAGE_UNIT_CHAINING_... */
@@ -446,10 +451,12 @@ uint32_t storage_unit_play(uint32_t settings,
  * storage_unit_channel_step: one step of a program, which is one CCW, with the same operands at
  * each. Give it a progress of zeros at first and then as the step before left it. Between two steps
  * processors may make requests. While the program is under way, the number is
- * STORAGE_UNIT_NUMBER_UNDER_WAY. A step of a program that has its answer changes nothing and gives
- * the answer again. A program takes a step for each CCW that it fetches, and one more where the
- * last step fetches none. A progress that is none (another length, a chaining over 3, another
- * status, a byte that must be zero): 65, or 64 where that applies, and nothing changes.
+ * STORAGE_UNIT_NUMBER_UNDER_WAY. 64, 65 and 66 are tested at each step; one of them at a later
+ * step, where other lengths or operands were given, is the answer too. A step of a program that has
+ * its answer changes nothing and gives the answer again. A program takes a step for each CCW that
+ * it fetches, and one more where the last step fetches none. Bytes that are no progress (another
+ * length, a chaining over 3, another status, a byte of the zeros that is not zero): 65, or 64 where
+ * that applies, and nothing changes.
  */
 uint64_t storage_unit_channel(uint32_t settings,
                               uint8_t *storage, size_t storage_length,

@@ -122,7 +122,7 @@ abbrev pub callLeft : ChannelOutcome → List ℕ → ChannelCall
 callLeft o progress =
     channelCall (resultOf (o .answer)) (o .storage) (o .keys) (o .room) (progressLeft (o .state) (o .count) (statusOf (o .answer)) progress)
 
--- a call that is refused for its settings, lengths or progress: nothing changes
+-- a call that is refused for its settings or its progress: nothing changes
 abbrev pub refusedWith : ChannelAnswer → List ℕ → List ℕ → List ℕ → List ℕ → ChannelCall
 refusedWith a storage keys room progress = channelCall (packed (channelValues a)) storage keys room progress
 

@@ -25,7 +25,7 @@ ghost use Rattle.host_channel.specs.ChannelCalls.{unfitAnswer, channelCa
 // How many bytes a progress has.
 const PROGRESS_LENGTH: usize = 32;
 
-// The result where the settings have another bit on.
+// The result where the settings have another bit on, or where the bytes are no progress and the lengths are wrong.
 fn settings_refused() -> u64
     ensures { λ r. ⌜ r ≡ packed (channelValues (ChannelAnswer.Refused ChannelReason.Configuration)) ⌝ }
 {
@@ -34,7 +34,7 @@ fn settings_refused() -> u64
     })
 }
 
-// The result where the progress is none: 64 for the lengths, else 65.
+// The result where the bytes are no progress: 64 for the lengths, else 65.
 fn progress_refused(settings: Settings, storage_length: usize, key_length: usize) -> u64
     ensures { λ r. ⌜ r ≡ packed (channelValues (unfitAnswer settings «storage_length» «key_length»)) ⌝ }
 {

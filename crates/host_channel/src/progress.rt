@@ -142,7 +142,7 @@ pub(crate) fn progress_in(request: ChannelRequest, bytes: &[u8]) -> ChannelProgr
     }
 }
 
-// Writes a number in four bytes, and one in eight. The stores stand one by one so that the compiler makes one of them.
+// Writes a number in four bytes, and one in eight. The stores stand one by one so that the compiler makes one store of them.
 fn put_word(bytes: &mut [u8], at: usize, value: u32)
     requires { ⌜ at + 4 ≤ length (now bytes) ⌝ }
     ensures { λ _. ⌜ now (bytes .exit) ≡ put 4 at value (now (bytes .entry)) ⌝ }

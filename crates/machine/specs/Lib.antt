@@ -1,4 +1,4 @@
--- Document 01, as the change requests of document 02 amend it, as definitions, in its order. Contracts cite them; the types are in src/lib.rt.
+-- Document 01, as the change requests of document 02 amend it, as definitions, in its order. Contracts cite them; the types are in src/.
 -- Bits as the manual numbers them, runs of writes, the pair's lookup
 pub mod Bits
 pub mod Lists

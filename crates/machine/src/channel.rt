@@ -47,7 +47,7 @@ pub enum Chaining {
 
 // The channel's record.
 pub struct ChannelRecord {
-    // The address of the CCW to come.
+    // The address of the CCW to come; after the last, that behind it; where one is refused, its own.
     pub ccw: u32,
     pub chaining: Chaining,
     // How many bytes were taken from the device, and how many were given to it.

@@ -4,6 +4,7 @@
 -- Assumes nothing.
 use Prim.Native.Nat.{ℕ, suc, _+_, _-_, _<_, _≤_}
 use mathlib.Core.Path.{_≡_, refl, sym, ap, subst, _∙_}
+use mathlib.Core.Bool.{Bool, true, false, cond}
 use mathlib.Core.List.{List}
 use mathlib.Core.Option.{Option, none, some}
 use native.Mathlib.Omega.{arith}
@@ -19,13 +20,14 @@ use Rattle.machine.specs.declared.channel.ChannelAnswer.the-variants.{Refused}
 use Rattle.machine.specs.declared.channel.ChannelReply.{ChannelReply}
 use Rattle.machine.specs.declared.channel.Standing.{Standing}
 use Rattle.machine.specs.declared.channel.Standing.the-variants.{UnderWay, Answered}
+use Rattle.machine.specs.declared.channel.Chaining.{Chaining}
 use Rattle.machine.specs.declared.channel.ChannelProgress.{ChannelProgress}
 use Rattle.machine.specs.Channel.{Channel, channel, standingAs, firstRefusal, requestLines, beforeFetching, nextCcw, channelStep}
-use Rattle.machine.specs.Channel.{begun, steps, ChannelOutcome, channelOutcome, channelRun, stepsThatFetch}
+use Rattle.machine.specs.Channel.{begun, steps, ChannelOutcome, outcomeIn, channelOutcome, channelRun, stepsThatFetch}
 use Rattle.machine.specs.Conditions.{ChannelCondition1}
-use Rattle.machine.proofs.Verdicts.{neither}
+use Rattle.machine.proofs.Verdicts.{neither, not-both}
 use Rattle.machine.proofs.ChannelSteps.{channel-condition-1}
-use Rattle.channel.specs.Requests.{Passed, Going, standingBy, replyOf, runFrom}
+use Rattle.channel.specs.Requests.{Passed, Later, chainsOn, underWay, standingBy, replyOf, runFrom}
 use Rattle.machine.proofs.ChannelSteps.{no-line, step-under-way, step-answered}
 use Rattle.machine.proofs.ChannelRuns.{not-under-way, refused-before, refused-unfetched, still-under-way}
 use Rattle.machine.proofs.ChannelRuns.{first-of-steps, answered-stays, steps-count, steps-within}
@@ -92,45 +94,116 @@ module _ (s : Settings) (q : ChannelRequest) (fromDevice storage keys room : Lis
         → channel storage′ keys′ room′ r ≡ channelStep s q fromDevice found
     step-on did = did ∙ sym (step-under-way s q fromDevice found stands)
 
-  -- A run.
-  module _ (going : Going q g) {storage′ keys′ room′ : List ℕ} {next : ChannelProgress}
+  -- A run: the CCW to come is its first step.
+  module _ (stands : g .standing ≡ UnderWay) (within : g .fetched ≤ q .grant) {storage′ keys′ room′ : List ℕ} {next : ChannelProgress}
       (did : channel storage′ keys′ room′ next ≡ nextCcw s q fromDevice found) where
-    -- its first step is the CCW to come
-    first-step : steps (q .grant + 1 - g .fetched) s q fromDevice found ≡ steps (q .grant - g .fetched) s q fromDevice (channel storage′ keys′ room′ next)
+    abbrev left : Channel
+    left = channel storage′ keys′ room′ next
+
+    first-step : steps (q .grant + 1 - g .fetched) s q fromDevice found ≡ steps (q .grant - g .fetched) s q fromDevice left
     first-step =
-        let one-more : q .grant + 1 - g .fetched ≡ suc (q .grant - g .fetched) = omega (arith, going .within) in
+        let one-more : q .grant + 1 - g .fetched ≡ suc (q .grant - g .fetched) = omega arith in
         ap (λ n. steps n s q fromDevice found) one-more ∙ first-of-steps s q fromDevice (q .grant - g .fetched) found
-        ∙ ap (steps (q .grant - g .fetched) s q fromDevice) (step-under-way s q fromDevice found (going .standing) ∙ sym did)
+        ∙ ap (steps (q .grant - g .fetched) s q fromDevice) (step-under-way s q fromDevice found stands ∙ sym did)
 
-    pub run-ends : {answer : ChannelAnswer} {reply : ChannelReply} → next .standing ≡ Answered answer → reply ≡ replyOf next answer
-        → channelOutcome reply storage′ keys′ room′ ≡ runFrom s q fromDevice found
-    unfolding runFrom
-    run-ends {answer} answered replied =
-        rw (first-step, answered-stays s q fromDevice (q .grant - g .fetched) (channel storage′ keys′ room′ next) answered, answered, replied) refl
-
-    next-fetched : next .standing ≡ UnderWay → (next .fetched ≡ 1 + g .fetched) × (g .fetched < q .grant)
-    next-fetched stands =
-        let (count, below) = still-under-way s q fromDevice found (rw (← did) stands) in
+    -- a CCW that leaves the request under way was granted, and is counted
+    pub next-fetched : next .standing ≡ UnderWay → (next .fetched ≡ 1 + g .fetched) × (g .fetched < q .grant)
+    next-fetched on =
+        let (count, below) = still-under-way s q fromDevice found (rw (← did) on) in
         (rw (← did) at count, below)
 
-    pub still-going : next .standing ≡ UnderWay → Going q next
-    still-going stands =
-        let (count, below) = next-fetched stands in
-        record { standing = stands; within = omega arith }
-
-    pub grant-falls : next .standing ≡ UnderWay → q .grant - next .fetched < q .grant - g .fetched
-    grant-falls stands =
-        let (count, below) = next-fetched stands in
-        omega arith
-
-    pub run-goes-on : (reply : ChannelReply) {storage″ keys″ room″ : List ℕ} → next .standing ≡ UnderWay
-        → channelOutcome reply storage″ keys″ room″ ≡ runFrom s q fromDevice (channel storage′ keys′ room′ next)
-        → channelOutcome reply storage″ keys″ room″ ≡ runFrom s q fromDevice found
+    -- the run from what it left is the same
+    pub run-same : runFrom s q fromDevice left ≡ runFrom s q fromDevice found
     unfolding runFrom
-    run-goes-on reply stands further =
-        let (count, below) = next-fetched stands in
-        let left : q .grant + 1 - next .fetched ≡ q .grant - g .fetched = omega arith in
-        further ∙ rw (left, first-step) refl
+    run-same = go (next .standing) refl
+      where
+        go : (standing : Standing) → next .standing ≡ standing
+            → outcomeIn (steps (q .grant + 1 - next .fetched) s q fromDevice left) ≡ outcomeIn (steps (q .grant + 1 - g .fetched) s q fromDevice found)
+        go UnderWay on =
+            let (count, below) = next-fetched on in
+            let less : q .grant + 1 - next .fetched ≡ q .grant - g .fetched = omega arith in
+            rw (less, first-step) refl
+        go (Answered answer) done =
+            rw (
+              first-step,
+              answered-stays s q fromDevice (q .grant + 1 - next .fetched) left done,
+              answered-stays s q fromDevice (q .grant - g .fetched) left done,
+            )
+            refl
+
+-- A chain of CCWs that began where so many were fetched: the run from what it left is the same, and it goes on, or has ended later.
+pub record Chain (s : Settings) (q : ChannelRequest) (fromDevice : List ℕ) (fetched : ℕ) (start c : Channel) (more : Bool) : Type 0 where
+  pub same : runFrom s q fromDevice c ≡ runFrom s q fromDevice start
+  pub going : more ≡ true → (c .progress .standing ≡ UnderWay) × (c .progress .fetched ≤ q .grant) × (fetched ≤ c .progress .fetched)
+  pub ended : more ≡ false → Later q fetched (c .progress)
+
+chains-under-way : (standing : Standing) (chaining : Chaining) → chainsOn standing chaining ≡ true → standing ≡ UnderWay
+unfolding chainsOn
+chains-under-way UnderWay chaining e = refl
+chains-under-way (Answered answer) chaining e = absurd (not-both e refl)
+
+module _ (s : Settings) (q : ChannelRequest) (fromDevice : List ℕ) (fetched : ℕ) where
+  pub chain-begins : (c : Channel) → c .progress .standing ≡ UnderWay → c .progress .fetched ≡ fetched → fetched ≤ q .grant
+      → Chain s q fromDevice fetched c c true
+  chain-begins c stands count within =
+      record { same = refl; going = λ e. (stands, omega arith, omega arith); ended = λ e. absurd (not-both refl e) }
+
+  module _ (start : Channel) (storage keys room : List ℕ) (g : ChannelProgress) {more : Bool}
+      (chain : Chain s q fromDevice fetched start (channel storage keys room g) more) (on : more ≡ true)
+      {storage′ keys′ room′ : List ℕ} {next : ChannelProgress} (did : channel storage′ keys′ room′ next ≡ nextCcw s q fromDevice (channel storage keys room g))
+      {more′ : Bool} (more-is : more′ ≡ chainsOn (next .standing) (next .state .chaining)) where
+    counted-on : next .standing ≡ UnderWay → (next .fetched ≡ 1 + g .fetched) × (g .fetched < q .grant)
+    counted-on stands = next-fetched s q fromDevice storage keys room g (chain .going on .0) (chain .going on .1) did stands
+
+    under-way : more′ ≡ true → next .standing ≡ UnderWay
+    under-way e = chains-under-way (next .standing) (next .state .chaining) (sym more-is ∙ e)
+
+    pub chain-goes-on : Chain s q fromDevice fetched start (channel storage′ keys′ room′ next) more′
+    chain-goes-on =
+        let before : fetched ≤ g .fetched = chain .going on .2 in
+        record {
+          same = run-same s q fromDevice storage keys room g (chain .going on .0) (chain .going on .1) did ∙ chain .same;
+          going = λ e.
+              let (count, below) = counted-on (under-way e) in
+              (under-way e, omega arith, omega arith);
+          ended = λ e.
+              record {
+                more = λ stands.
+                    let (count, below) = counted-on stands in
+                    omega arith;
+                within = λ stands.
+                    let (count, below) = counted-on stands in
+                    omega arith;
+              };
+        }
+
+    pub chain-falls : cond more′ (q .grant + 1 - next .fetched) 0 < cond more (q .grant + 1 - g .fetched) 0
+    chain-falls = rw on (go more′ refl)
+      where
+        go : (b : Bool) → more′ ≡ b → cond b (q .grant + 1 - next .fetched) 0 < q .grant + 1 - g .fetched
+        go true e =
+            let (count, below) = counted-on (under-way e) in
+            omega arith
+        go false e =
+            let within : g .fetched ≤ q .grant = chain .going on .1 in
+            omega arith
+
+-- The run from what a chain left, by its parts.
+module _ (s : Settings) (q : ChannelRequest) (fromDevice storage keys room : List ℕ) (g : ChannelProgress) {end : ChannelOutcome}
+    (same : runFrom s q fromDevice (channel storage keys room g) ≡ end) where
+  pub run-ends : {answer : ChannelAnswer} {reply : ChannelReply} → g .standing ≡ Answered answer → reply ≡ replyOf g answer
+      → channelOutcome reply storage keys room ≡ end
+  unfolding runFrom
+  run-ends done replied =
+      let stays = answered-stays s q fromDevice (q .grant + 1 - g .fetched) (channel storage keys room g) done in
+      rw replied (rw (stays, done) at same)
+
+  pub run-goes-on : (reply : ChannelReply) {storage′ keys′ room′ : List ℕ} → g .standing ≡ UnderWay
+      → channelOutcome reply storage′ keys′ room′
+      ≡ runFrom s q fromDevice
+      (channel storage keys room (underWay (g .state .ccw) (g .state .chaining) (g .state .taken) (g .state .given) (g .fetched)))
+      → channelOutcome reply storage′ keys′ room′ ≡ end
+  run-goes-on reply stands further = further ∙ rw (← stands) same
 
 -- A whole request: its outcome, and what follows of its count.
 module _ (s : Settings) (q : ChannelRequest) (fromDevice storage keys room : List ℕ) where
@@ -166,14 +239,10 @@ module _ (s : Settings) (q : ChannelRequest) (fromDevice storage keys room : Lis
       ∙ ap (steps (q .grant) s q fromDevice) (sym first) ∙ stays in
       promised reply (rw (replied, begins, run) refl)
 
-  pub request-executed : (reply : ChannelReply) {g : ChannelProgress} {storage′ keys′ room′ : List ℕ} → g ≡ begun q
-      → channelOutcome reply storage′ keys′ room′ ≡ runFrom s q fromDevice (channel storage keys room g) → Promised reply storage′ keys′ room′
+  pub request-executed : (reply : ChannelReply) {storage′ keys′ room′ : List ℕ}
+      → channelOutcome reply storage′ keys′ room′ ≡ runFrom s q fromDevice start → Promised reply storage′ keys′ room′
   unfolding channelRun runFrom
-  request-executed reply begins outcome = promised reply (rw begins at outcome ∙ rw (sub-zero) refl)
-
--- a request is under way at its start
-pub begun-going : (q : ChannelRequest) {g : ChannelProgress} → g ≡ begun q → Going q g
-begun-going q begins = rw begins (record { standing = refl; within = omega arith })
+  request-executed reply outcome = promised reply (outcome ∙ rw (sub-zero) refl)
 
 -- what is left by the rule meets condition 1
 pub conditions-met : (s : Settings) (q : ChannelRequest) (fromDevice : List ℕ) (before : Channel) {after : Channel}

@@ -1,7 +1,7 @@
 -- A request that passed its own lines, and what the helpers of a CCW mean.
 use Prim.Native.Nat.{ℕ, _+_, _-_, _<_, _≤_}
 use mathlib.Core.Path.{_≡_}
-use mathlib.Core.Bool.{true, cond}
+use mathlib.Core.Bool.{Bool, true, false, cond}
 use mathlib.Core.List.{List}
 use mathlib.Core.Option.{Option, none, some}
 use Rattle.machine.specs.declared.Settings.{Settings}
@@ -10,6 +10,8 @@ use Rattle.machine.specs.declared.AccessKind.the-variants.{Fetch, Store}
 use Rattle.machine.specs.declared.channel.ChannelRequest.{ChannelRequest}
 use Rattle.machine.specs.declared.channel.ChannelOperation.{ChannelOperation}
 use Rattle.machine.specs.declared.channel.ChannelOperation.the-variants.{TransferInChannel, Data, Invalid}
+use Rattle.machine.specs.declared.channel.Chaining.{Chaining}
+use Rattle.machine.specs.declared.channel.Chaining.the-variants.{First, Command, Transfer, Ended}
 use Rattle.machine.specs.declared.channel.ChannelRecord.{ChannelRecord}
 use Rattle.machine.specs.declared.channel.ChannelReason.the-variants.{Program}
 use Rattle.machine.specs.declared.channel.ChannelReason.{ChannelReason}
@@ -60,10 +62,23 @@ afterTransfer address g =
     (record { state = transferred address (g .state); fetched = g .fetched; standing = UnderWay })
     (standingAs g (Answered (Refused Program)))
 
--- a request under way that has not fetched more CCWs than are granted
-pub record Going (q : ChannelRequest) (g : ChannelProgress) : Type 0 where
-  pub standing : g .standing ≡ UnderWay
-  pub within : g .fetched ≤ q .grant
+-- the progress of a request under way, of its parts
+abbrev pub underWay : (ccw : ℕ) (chaining : Chaining) (taken given fetched : ℕ) → ChannelProgress
+underWay ccw chaining taken given fetched =
+    record { state = record { ccw = ccw; chaining = chaining; taken = taken; given = given }; fetched = fetched; standing = UnderWay }
+
+-- the next CCW follows by chain command
+unfoldable pub chainsOn : Standing → Chaining → Bool
+chainsOn (Answered answer) chaining = false
+chainsOn UnderWay First = true
+chainsOn UnderWay Command = true
+chainsOn UnderWay Transfer = false
+chainsOn UnderWay Ended = true
+
+-- a progress that, if the request is under way, has fetched more CCWs than so many, and no more than are granted
+pub record Later (q : ChannelRequest) (fetched : ℕ) (g : ChannelProgress) : Type 0 where
+  pub more : g .standing ≡ UnderWay → fetched < g .fetched
+  pub within : g .standing ≡ UnderWay → g .fetched ≤ q .grant
 
 -- the standing that the first refusal gives, if there is one
 unfoldable pub standingBy : Option ChannelReason → Standing

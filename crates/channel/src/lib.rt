@@ -14,6 +14,7 @@ use crate::progress::begin;
 use crate::run::execute;
 use crate::run::reply;
 use machine::Settings;
+use machine::channel::Chaining;
 use machine::channel::ChannelAnswer;
 use machine::channel::ChannelProgress;
 use machine::channel::ChannelReason;
@@ -110,18 +111,21 @@ pub fn channel_request(
     ensures count_of_steps { λ r. ⌜ r .count ≡ stepsThatFetch (request .grant + 1) settings request (now («from_device» .entry))
         (channel (now (storage .entry)) (now (keys .entry)) (now (room .entry)) (begun request)) ⌝ }
 {
-    let progress = begin(request);
     let lines = request_lines(settings, storage.len(), keys.len(), request);
     match lines {
-        Standing::Answered { answer } => reply(progress, answer),
+        Standing::Answered { answer } => reply(begin(request), answer),
         Standing::UnderWay => execute(
             settings,
             storage,
             keys,
             request,
-            progress,
             from_device,
             room,
+            request.first,
+            Chaining::First,
+            0,
+            0,
+            0,
         ),
     }
 }

@@ -9,7 +9,7 @@ use machine::channel::Standing;
 ghost use Prim.Native.Nat.{_+_, _<_};
 ghost use mathlib.Core.Path.{_≡_};
 ghost use Rattle.machine.specs.Channel.{begun, standingAs, transferAllowed, afterData};
-ghost use Rattle.channel.specs.Requests.{counted as countedBy, afterTransfer};
+ghost use Rattle.channel.specs.Requests.{counted as countedBy, underWay, afterTransfer};
 
 // The progress of a request that begins: its first CCW, and its two buffers used from their first bytes.
 pub fn begin(request: ChannelRequest) -> ChannelProgress
@@ -23,6 +23,28 @@ pub fn begin(request: ChannelRequest) -> ChannelProgress
             given: 0,
         },
         fetched: 0,
+        standing: Standing::UnderWay,
+    }
+}
+
+// The progress of a request under way, of its parts.
+pub(crate) fn under_way(
+    ccw: u32,
+    chaining: Chaining,
+    taken: usize,
+    given: usize,
+    fetched: u32,
+) -> ChannelProgress
+    ensures { λ r. ⌜ r ≡ underWay ccw chaining taken given fetched ⌝ }
+{
+    ChannelProgress {
+        state: ChannelRecord {
+            ccw,
+            chaining,
+            taken,
+            given,
+        },
+        fetched,
         standing: Standing::UnderWay,
     }
 }

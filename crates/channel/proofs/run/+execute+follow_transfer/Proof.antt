@@ -1,9 +1,9 @@
--- The cycle of calls {execute, follow_transfer}: the measure of each is the part of the grant that is left. A CCW that leaves the request under
--- way was granted and is counted, so it falls at each call; and what both mean is one run, so that the same laws serve both.
+-- The cycle of calls {execute, follow_transfer}: the measure of each is the part of the grant that is left. A chain that leaves the request under
+-- way has counted a CCW that was granted, so it falls at each call; and what both mean is one run, so that the same laws serve both.
 -- Assumes nothing.
 use native.Mathlib.Omega.{arith}
 use Rattle.channel.proofs.Requests.{still-passed}
-use Rattle.channel.proofs.Replies.{run-ends, run-goes-on, still-going, grant-falls}
+use Rattle.channel.proofs.Replies.{run-ends, run-goes-on}
 use borrow.Author.Needs.{needs}
 use Prim.Native.Nat.{ℕ, _-_, _<_}
 use borrow.Fn.Kinds.{In}
@@ -14,16 +14,16 @@ use Rattle.channel.proofs.run.+execute+follow_transfer.Lts-execute as e
 use Rattle.channel.proofs.run.follow_transfer.Reads as follow-transfer
 use Rattle.channel.proofs.run.follow_transfer.Kinds as follow-transfer-kinds
 use Rattle.channel.proofs.run.+execute+follow_transfer.Lts-follow_transfer as follow-transfer-lts
-use Rattle.channel.proofs.program.next_ccw.Reads as next-ccw-reads
 use Rattle.channel.proofs.run.reply.Reads as reply-reads
+use Rattle.channel.proofs.run.run_chain.Reads as run-chain-reads
 use Rattle.channel.proofs.run.+execute+follow_transfer.{statement}
 use Rattle.channel.proofs.run.+execute+follow_transfer.Tie.{close}
 
 abbrev μ-execute : Measures 4 execute-kinds.ps ℕ
-μ-execute κs a = a .1 .1 .1 .0 .grant - a .1 .1 .1 .1 .0 .fetched
+μ-execute κs a = a .1 .1 .1 .0 .grant - a .1 .1 .1 .1 .1 .1 .1 .1 .1 .1 .0
 
 abbrev μ-follow-transfer : Measures 4 follow-transfer-kinds.ps ℕ
-μ-follow-transfer κs a = a .1 .1 .1 .0 .grant - a .1 .1 .1 .1 .0 .fetched
+μ-follow-transfer κs a = a .1 .1 .1 .0 .grant - a .1 .1 .1 .1 .1 .1 .1 .1 .1 .1 .0
 
 abbrev execute-at : ℕ → In 4 execute-kinds.ps
 execute-at t = and 4 execute-kinds.ps (is 4 execute-kinds.ps μ-execute t) execute.Pre
@@ -47,281 +47,167 @@ follow-transfer-below t =
     (falls 4 follow-transfer-kinds.ps _<_ μ-follow-transfer t)
     follow-transfer.Pre
 
-execute-next-ccw-requires : (t : ℕ) → execute-lts.Need-next-ccw-requires (
-  next-ccw-reads.Asked,
-  next-ccw-reads.Learnt,
+execute-run-chain-requires : (t : ℕ) → execute-lts.Need-run-chain-requires (
+  run-chain-reads.Asked,
+  run-chain-reads.Learnt,
   reply-reads.Asked,
   reply-reads.Learnt,
   follow-transfer-below t,
   follow-transfer.Post,
-  execute-below t,
-  execute.Post,
 ) (execute-at t) execute.Post
-execute-next-ccw-requires t c κs =
+execute-run-chain-requires t c κs =
     let start = c .before .before .before .before .before .before .before in
-    start .pre .1 .0
+    start .pre .1
 
 execute-enum-known-standing : (t : ℕ) → execute-lts.Need-enum-known-standing (
-  next-ccw-reads.Asked,
-  next-ccw-reads.Learnt,
+  run-chain-reads.Asked,
+  run-chain-reads.Learnt,
   reply-reads.Asked,
   reply-reads.Learnt,
   follow-transfer-below t,
   follow-transfer.Post,
-  execute-below t,
-  execute.Post,
 ) (execute-at t) execute.Post
 execute-enum-known-standing t c = search needs
 
 execute-reply-requires : (t : ℕ) → execute-lts.Need-reply-requires (
-  next-ccw-reads.Asked,
-  next-ccw-reads.Learnt,
+  run-chain-reads.Asked,
+  run-chain-reads.Learnt,
   reply-reads.Asked,
   reply-reads.Learnt,
   follow-transfer-below t,
   follow-transfer.Post,
-  execute-below t,
-  execute.Post,
 ) (execute-at t) execute.Post
 execute-reply-requires t c κs = search needs
 
 execute-enum-told : (t : ℕ) → execute-lts.Need-enum-told (
-  next-ccw-reads.Asked,
-  next-ccw-reads.Learnt,
+  run-chain-reads.Asked,
+  run-chain-reads.Learnt,
   reply-reads.Asked,
   reply-reads.Learnt,
   follow-transfer-below t,
   follow-transfer.Post,
-  execute-below t,
-  execute.Post,
 ) (execute-at t) execute.Post
 execute-enum-told t c = search needs
 
-execute-enum-told-2 : (t : ℕ) → execute-lts.Need-enum-told-2 (
-  next-ccw-reads.Asked,
-  next-ccw-reads.Learnt,
-  reply-reads.Asked,
-  reply-reads.Learnt,
-  follow-transfer-below t,
-  follow-transfer.Post,
-  execute-below t,
-  execute.Post,
-) (execute-at t) execute.Post
-execute-enum-told-2 t c = search needs
-
 execute-follow-transfer-requires : (t : ℕ) → execute-lts.Need-follow-transfer-requires (
-  next-ccw-reads.Asked,
-  next-ccw-reads.Learnt,
+  run-chain-reads.Asked,
+  run-chain-reads.Learnt,
   reply-reads.Asked,
   reply-reads.Learnt,
   follow-transfer-below t,
   follow-transfer.Post,
-  execute-below t,
-  execute.Post,
 ) (execute-at t) execute.Post
 execute-follow-transfer-requires t c κs =
-    let told = c .before .before .before .before .before in
+    let told = c .before .before .before in
     let did = told .before .before .before .before .before .before .before .before .before in
     let start = did .before .before .before .before .before .before .before .before in
-    let passed = still-passed (start .pre .1 .0) (did .next-ccw .kept .1 .0) (did .next-ccw .kept .1 .1 .0) in
-    let going = still-going _ _ _ _ _ _ _ (start .pre .1 .1) (did .next-ccw .ensures) (told .enum-told .given .1) in
-    let falls = grant-falls _ _ _ _ _ _ _ (start .pre .1 .1) (did .next-ccw .ensures) (told .enum-told .given .1) in
-    (omega (arith, falls, start .pre .0), (passed, going))
-
-execute-execute-requires : (t : ℕ) → execute-lts.Need-execute-requires (
-  next-ccw-reads.Asked,
-  next-ccw-reads.Learnt,
-  reply-reads.Asked,
-  reply-reads.Learnt,
-  follow-transfer-below t,
-  follow-transfer.Post,
-  execute-below t,
-  execute.Post,
-) (execute-at t) execute.Post
-execute-execute-requires t c κs =
-    let told = c .before .before .before .before in
-    let did = told .before .before .before .before .before .before .before .before .before in
-    let start = did .before .before .before .before .before .before .before .before in
-    let passed = still-passed (start .pre .1 .0) (did .next-ccw .kept .1 .0) (did .next-ccw .kept .1 .1 .0) in
-    let going = still-going _ _ _ _ _ _ _ (start .pre .1 .1) (did .next-ccw .ensures) (told .enum-told .given .1) in
-    let falls = grant-falls _ _ _ _ _ _ _ (start .pre .1 .1) (did .next-ccw .ensures) (told .enum-told .given .1) in
-    (omega (arith, falls, start .pre .0), (passed, going))
+    let passed = still-passed (start .pre .1 .0) (did .run-chain .kept .1 .0) (did .run-chain .kept .1 .1 .0) in
+    let more = did .run-chain .ensures .1 .more (told .enum-told .given .1) in
+    let within = did .run-chain .ensures .1 .within (told .enum-told .given .1) in
+    (omega (arith, more, within, start .pre .0), (passed, within))
 
 execute-same-length : (t : ℕ) → execute-lts.Need-same-length (
-  next-ccw-reads.Asked,
-  next-ccw-reads.Learnt,
+  run-chain-reads.Asked,
+  run-chain-reads.Learnt,
   reply-reads.Asked,
   reply-reads.Learnt,
   follow-transfer-below t,
   follow-transfer.Post,
-  execute-below t,
-  execute.Post,
 ) (execute-at t) execute.Post
 execute-same-length t c = search needs
 
 execute-same-length-2 : (t : ℕ) → execute-lts.Need-same-length-2 (
-  next-ccw-reads.Asked,
-  next-ccw-reads.Learnt,
+  run-chain-reads.Asked,
+  run-chain-reads.Learnt,
   reply-reads.Asked,
   reply-reads.Learnt,
   follow-transfer-below t,
   follow-transfer.Post,
-  execute-below t,
-  execute.Post,
 ) (execute-at t) execute.Post
 execute-same-length-2 t c = search needs
 
 execute-same-length-3 : (t : ℕ) → execute-lts.Need-same-length-3 (
-  next-ccw-reads.Asked,
-  next-ccw-reads.Learnt,
+  run-chain-reads.Asked,
+  run-chain-reads.Learnt,
   reply-reads.Asked,
   reply-reads.Learnt,
   follow-transfer-below t,
   follow-transfer.Post,
-  execute-below t,
-  execute.Post,
 ) (execute-at t) execute.Post
 execute-same-length-3 t c = search needs
 
 execute-returns : (t : ℕ) → execute-lts.Need-returns (
-  next-ccw-reads.Asked,
-  next-ccw-reads.Learnt,
+  run-chain-reads.Asked,
+  run-chain-reads.Learnt,
   reply-reads.Asked,
   reply-reads.Learnt,
   follow-transfer-below t,
   follow-transfer.Post,
-  execute-below t,
-  execute.Post,
 ) (execute-at t) execute.Post
 execute-returns t c =
     let told = c .before .before in
     let did = told .before .before .before .before .before .before .before .before .before in
-    let start = did .before .before .before .before .before .before .before .before in
-    run-ends _ _ _ _ _ _ _ (start .pre .1 .1) (did .next-ccw .ensures) (told .standing .given .1) (c .reply .ensures)
+    run-ends _ _ _ _ _ _ _ (did .run-chain .ensures .0) (told .standing .given .1) (c .reply .ensures)
 
 execute-same-length-4 : (t : ℕ) → execute-lts.Need-same-length-4 (
-  next-ccw-reads.Asked,
-  next-ccw-reads.Learnt,
+  run-chain-reads.Asked,
+  run-chain-reads.Learnt,
   reply-reads.Asked,
   reply-reads.Learnt,
   follow-transfer-below t,
   follow-transfer.Post,
-  execute-below t,
-  execute.Post,
 ) (execute-at t) execute.Post
 execute-same-length-4 t c = search needs
 
 execute-same-length-5 : (t : ℕ) → execute-lts.Need-same-length-5 (
-  next-ccw-reads.Asked,
-  next-ccw-reads.Learnt,
+  run-chain-reads.Asked,
+  run-chain-reads.Learnt,
   reply-reads.Asked,
   reply-reads.Learnt,
   follow-transfer-below t,
   follow-transfer.Post,
-  execute-below t,
-  execute.Post,
 ) (execute-at t) execute.Post
 execute-same-length-5 t c = search needs
 
 execute-same-length-6 : (t : ℕ) → execute-lts.Need-same-length-6 (
-  next-ccw-reads.Asked,
-  next-ccw-reads.Learnt,
+  run-chain-reads.Asked,
+  run-chain-reads.Learnt,
   reply-reads.Asked,
   reply-reads.Learnt,
   follow-transfer-below t,
   follow-transfer.Post,
-  execute-below t,
-  execute.Post,
 ) (execute-at t) execute.Post
 execute-same-length-6 t c = search needs
 
 execute-returns-2 : (t : ℕ) → execute-lts.Need-returns-2 (
-  next-ccw-reads.Asked,
-  next-ccw-reads.Learnt,
+  run-chain-reads.Asked,
+  run-chain-reads.Learnt,
   reply-reads.Asked,
   reply-reads.Learnt,
   follow-transfer-below t,
   follow-transfer.Post,
-  execute-below t,
-  execute.Post,
 ) (execute-at t) execute.Post
 execute-returns-2 t c =
     let further = c .before .before .before .before .before .before in
-    let told = further .before .before .before .before .before .before in
+    let told = further .before .before .before .before in
     let did = told .before .before .before .before .before .before .before .before .before in
-    let start = did .before .before .before .before .before .before .before .before in
-    run-goes-on _ _ _ _ _ _ _ (start .pre .1 .1) (did .next-ccw .ensures) (further .follow-transfer .result)
-    (told .enum-told .given .1) (further .follow-transfer .ensures)
+    run-goes-on _ _ _ _ _ _ _ (did .run-chain .ensures .0) (further .follow-transfer .result) (told .enum-told .given .1) (further .follow-transfer .ensures)
 
-execute-same-length-7 : (t : ℕ) → execute-lts.Need-same-length-7 (
-  next-ccw-reads.Asked,
-  next-ccw-reads.Learnt,
-  reply-reads.Asked,
-  reply-reads.Learnt,
-  follow-transfer-below t,
-  follow-transfer.Post,
-  execute-below t,
-  execute.Post,
-) (execute-at t) execute.Post
-execute-same-length-7 t c = search needs
-
-execute-same-length-8 : (t : ℕ) → execute-lts.Need-same-length-8 (
-  next-ccw-reads.Asked,
-  next-ccw-reads.Learnt,
-  reply-reads.Asked,
-  reply-reads.Learnt,
-  follow-transfer-below t,
-  follow-transfer.Post,
-  execute-below t,
-  execute.Post,
-) (execute-at t) execute.Post
-execute-same-length-8 t c = search needs
-
-execute-same-length-9 : (t : ℕ) → execute-lts.Need-same-length-9 (
-  next-ccw-reads.Asked,
-  next-ccw-reads.Learnt,
-  reply-reads.Asked,
-  reply-reads.Learnt,
-  follow-transfer-below t,
-  follow-transfer.Post,
-  execute-below t,
-  execute.Post,
-) (execute-at t) execute.Post
-execute-same-length-9 t c = search needs
-
-execute-returns-3 : (t : ℕ) → execute-lts.Need-returns-3 (
-  next-ccw-reads.Asked,
-  next-ccw-reads.Learnt,
-  reply-reads.Asked,
-  reply-reads.Learnt,
-  follow-transfer-below t,
-  follow-transfer.Post,
-  execute-below t,
-  execute.Post,
-) (execute-at t) execute.Post
-execute-returns-3 t c =
-    let further = c .before .before .before .before .before .before in
-    let told = further .before .before .before .before .before in
-    let did = told .before .before .before .before .before .before .before .before .before in
-    let start = did .before .before .before .before .before .before .before .before in
-    run-goes-on _ _ _ _ _ _ _ (start .pre .1 .1) (did .next-ccw .ensures) (further .execute .result)
-    (told .enum-told .given .1) (further .execute .ensures)
-
-follow-transfer-next-ccw-requires : (t : ℕ) → follow-transfer-lts.Need-next-ccw-requires (
-  next-ccw-reads.Asked,
-  next-ccw-reads.Learnt,
+follow-transfer-run-chain-requires : (t : ℕ) → follow-transfer-lts.Need-run-chain-requires (
+  run-chain-reads.Asked,
+  run-chain-reads.Learnt,
   reply-reads.Asked,
   reply-reads.Learnt,
   execute-below t,
   execute.Post,
 ) (follow-transfer-at t) follow-transfer.Post
-follow-transfer-next-ccw-requires t c κs =
+follow-transfer-run-chain-requires t c κs =
     let start = c .before .before .before .before .before .before .before in
-    start .pre .1 .0
+    start .pre .1
 
 follow-transfer-enum-known-standing : (t : ℕ) → follow-transfer-lts.Need-enum-known-standing (
-  next-ccw-reads.Asked,
-  next-ccw-reads.Learnt,
+  run-chain-reads.Asked,
+  run-chain-reads.Learnt,
   reply-reads.Asked,
   reply-reads.Learnt,
   execute-below t,
@@ -330,8 +216,8 @@ follow-transfer-enum-known-standing : (t : ℕ) → follow-transfer-lts.Need-enu
 follow-transfer-enum-known-standing t c = search needs
 
 follow-transfer-reply-requires : (t : ℕ) → follow-transfer-lts.Need-reply-requires (
-  next-ccw-reads.Asked,
-  next-ccw-reads.Learnt,
+  run-chain-reads.Asked,
+  run-chain-reads.Learnt,
   reply-reads.Asked,
   reply-reads.Learnt,
   execute-below t,
@@ -340,8 +226,8 @@ follow-transfer-reply-requires : (t : ℕ) → follow-transfer-lts.Need-reply-re
 follow-transfer-reply-requires t c κs = search needs
 
 follow-transfer-enum-told : (t : ℕ) → follow-transfer-lts.Need-enum-told (
-  next-ccw-reads.Asked,
-  next-ccw-reads.Learnt,
+  run-chain-reads.Asked,
+  run-chain-reads.Learnt,
   reply-reads.Asked,
   reply-reads.Learnt,
   execute-below t,
@@ -350,8 +236,8 @@ follow-transfer-enum-told : (t : ℕ) → follow-transfer-lts.Need-enum-told (
 follow-transfer-enum-told t c = search needs
 
 follow-transfer-execute-requires : (t : ℕ) → follow-transfer-lts.Need-execute-requires (
-  next-ccw-reads.Asked,
-  next-ccw-reads.Learnt,
+  run-chain-reads.Asked,
+  run-chain-reads.Learnt,
   reply-reads.Asked,
   reply-reads.Learnt,
   execute-below t,
@@ -359,16 +245,16 @@ follow-transfer-execute-requires : (t : ℕ) → follow-transfer-lts.Need-execut
 ) (follow-transfer-at t) follow-transfer.Post
 follow-transfer-execute-requires t c κs =
     let told = c .before .before .before in
-    let did = told .before .before .before .before .before .before .before .before in
+    let did = told .before .before .before .before .before .before .before .before .before in
     let start = did .before .before .before .before .before .before .before .before in
-    let passed = still-passed (start .pre .1 .0) (did .next-ccw .kept .1 .0) (did .next-ccw .kept .1 .1 .0) in
-    let going = still-going _ _ _ _ _ _ _ (start .pre .1 .1) (did .next-ccw .ensures) (told .enum-told .given .1) in
-    let falls = grant-falls _ _ _ _ _ _ _ (start .pre .1 .1) (did .next-ccw .ensures) (told .enum-told .given .1) in
-    (omega (arith, falls, start .pre .0), (passed, going))
+    let passed = still-passed (start .pre .1 .0) (did .run-chain .kept .1 .0) (did .run-chain .kept .1 .1 .0) in
+    let more = did .run-chain .ensures .1 .more (told .enum-told .given .1) in
+    let within = did .run-chain .ensures .1 .within (told .enum-told .given .1) in
+    (omega (arith, more, within, start .pre .0), (passed, within))
 
 follow-transfer-same-length : (t : ℕ) → follow-transfer-lts.Need-same-length (
-  next-ccw-reads.Asked,
-  next-ccw-reads.Learnt,
+  run-chain-reads.Asked,
+  run-chain-reads.Learnt,
   reply-reads.Asked,
   reply-reads.Learnt,
   execute-below t,
@@ -377,8 +263,8 @@ follow-transfer-same-length : (t : ℕ) → follow-transfer-lts.Need-same-length
 follow-transfer-same-length t c = search needs
 
 follow-transfer-same-length-2 : (t : ℕ) → follow-transfer-lts.Need-same-length-2 (
-  next-ccw-reads.Asked,
-  next-ccw-reads.Learnt,
+  run-chain-reads.Asked,
+  run-chain-reads.Learnt,
   reply-reads.Asked,
   reply-reads.Learnt,
   execute-below t,
@@ -387,8 +273,8 @@ follow-transfer-same-length-2 : (t : ℕ) → follow-transfer-lts.Need-same-leng
 follow-transfer-same-length-2 t c = search needs
 
 follow-transfer-same-length-3 : (t : ℕ) → follow-transfer-lts.Need-same-length-3 (
-  next-ccw-reads.Asked,
-  next-ccw-reads.Learnt,
+  run-chain-reads.Asked,
+  run-chain-reads.Learnt,
   reply-reads.Asked,
   reply-reads.Learnt,
   execute-below t,
@@ -397,8 +283,8 @@ follow-transfer-same-length-3 : (t : ℕ) → follow-transfer-lts.Need-same-leng
 follow-transfer-same-length-3 t c = search needs
 
 follow-transfer-returns : (t : ℕ) → follow-transfer-lts.Need-returns (
-  next-ccw-reads.Asked,
-  next-ccw-reads.Learnt,
+  run-chain-reads.Asked,
+  run-chain-reads.Learnt,
   reply-reads.Asked,
   reply-reads.Learnt,
   execute-below t,
@@ -406,13 +292,12 @@ follow-transfer-returns : (t : ℕ) → follow-transfer-lts.Need-returns (
 ) (follow-transfer-at t) follow-transfer.Post
 follow-transfer-returns t c =
     let told = c .before .before in
-    let did = told .before .before .before .before .before .before .before .before in
-    let start = did .before .before .before .before .before .before .before .before in
-    run-ends _ _ _ _ _ _ _ (start .pre .1 .1) (did .next-ccw .ensures) (told .standing .given .1) (c .reply .ensures)
+    let did = told .before .before .before .before .before .before .before .before .before in
+    run-ends _ _ _ _ _ _ _ (did .run-chain .ensures .0) (told .standing .given .1) (c .reply .ensures)
 
 follow-transfer-same-length-4 : (t : ℕ) → follow-transfer-lts.Need-same-length-4 (
-  next-ccw-reads.Asked,
-  next-ccw-reads.Learnt,
+  run-chain-reads.Asked,
+  run-chain-reads.Learnt,
   reply-reads.Asked,
   reply-reads.Learnt,
   execute-below t,
@@ -421,8 +306,8 @@ follow-transfer-same-length-4 : (t : ℕ) → follow-transfer-lts.Need-same-leng
 follow-transfer-same-length-4 t c = search needs
 
 follow-transfer-same-length-5 : (t : ℕ) → follow-transfer-lts.Need-same-length-5 (
-  next-ccw-reads.Asked,
-  next-ccw-reads.Learnt,
+  run-chain-reads.Asked,
+  run-chain-reads.Learnt,
   reply-reads.Asked,
   reply-reads.Learnt,
   execute-below t,
@@ -431,8 +316,8 @@ follow-transfer-same-length-5 : (t : ℕ) → follow-transfer-lts.Need-same-leng
 follow-transfer-same-length-5 t c = search needs
 
 follow-transfer-same-length-6 : (t : ℕ) → follow-transfer-lts.Need-same-length-6 (
-  next-ccw-reads.Asked,
-  next-ccw-reads.Learnt,
+  run-chain-reads.Asked,
+  run-chain-reads.Learnt,
   reply-reads.Asked,
   reply-reads.Learnt,
   execute-below t,
@@ -441,8 +326,8 @@ follow-transfer-same-length-6 : (t : ℕ) → follow-transfer-lts.Need-same-leng
 follow-transfer-same-length-6 t c = search needs
 
 follow-transfer-returns-2 : (t : ℕ) → follow-transfer-lts.Need-returns-2 (
-  next-ccw-reads.Asked,
-  next-ccw-reads.Learnt,
+  run-chain-reads.Asked,
+  run-chain-reads.Learnt,
   reply-reads.Asked,
   reply-reads.Learnt,
   execute-below t,
@@ -451,31 +336,25 @@ follow-transfer-returns-2 : (t : ℕ) → follow-transfer-lts.Need-returns-2 (
 follow-transfer-returns-2 t c =
     let further = c .before .before .before .before .before .before in
     let told = further .before .before .before .before in
-    let did = told .before .before .before .before .before .before .before .before in
-    let start = did .before .before .before .before .before .before .before .before in
-    run-goes-on _ _ _ _ _ _ _ (start .pre .1 .1) (did .next-ccw .ensures) (further .execute .result)
-    (told .enum-told .given .1) (further .execute .ensures)
+    let did = told .before .before .before .before .before .before .before .before .before in
+    run-goes-on _ _ _ _ _ _ _ (did .run-chain .ensures .0) (further .execute .result) (told .enum-told .given .1) (further .execute .ensures)
 
 pub +execute+follow-transfer-spec : {M : Type 1} → statement M
 +execute+follow-transfer-spec = close μ-execute μ-follow-transfer (λ t. execute-lts.spec (
-  next-ccw-reads.Asked,
-  next-ccw-reads.Learnt,
+  run-chain-reads.Asked,
+  run-chain-reads.Learnt,
   reply-reads.Asked,
   reply-reads.Learnt,
   follow-transfer-below t,
   follow-transfer.Post,
-  execute-below t,
-  execute.Post,
 )
     (execute-at t)
     execute.Post
-    (execute-next-ccw-requires t)
+    (execute-run-chain-requires t)
     (execute-enum-known-standing t)
     (execute-reply-requires t)
     (execute-enum-told t)
-    (execute-enum-told-2 t)
     (execute-follow-transfer-requires t)
-    (execute-execute-requires t)
     (execute-same-length t)
     (execute-same-length-2 t)
     (execute-same-length-3 t)
@@ -483,14 +362,10 @@ pub +execute+follow-transfer-spec : {M : Type 1} → statement M
     (execute-same-length-4 t)
     (execute-same-length-5 t)
     (execute-same-length-6 t)
-    (execute-returns-2 t)
-    (execute-same-length-7 t)
-    (execute-same-length-8 t)
-    (execute-same-length-9 t)
-    (execute-returns-3 t))
+    (execute-returns-2 t))
     λ t. follow-transfer-lts.spec (
-      next-ccw-reads.Asked,
-      next-ccw-reads.Learnt,
+      run-chain-reads.Asked,
+      run-chain-reads.Learnt,
       reply-reads.Asked,
       reply-reads.Learnt,
       execute-below t,
@@ -498,7 +373,7 @@ pub +execute+follow-transfer-spec : {M : Type 1} → statement M
     )
     (follow-transfer-at t)
     follow-transfer.Post
-    (follow-transfer-next-ccw-requires t)
+    (follow-transfer-run-chain-requires t)
     (follow-transfer-enum-known-standing t)
     (follow-transfer-reply-requires t)
     (follow-transfer-enum-told t)

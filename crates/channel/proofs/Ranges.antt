@@ -58,6 +58,15 @@ module _ (s : Settings) (kind : AccessKind) (accessKey : ℕ) (keys : List ℕ) 
         let all : i ≡ last + 1 - first = omega arith in
         sym (rw all at none) ∙ by-unit
 
+    -- a range in one unit
+    pub one-unit-forbids : first ≡ last → {answer : Bool} → answer ≡ permits allowed (getD keys first 0)
+        → not answer ≡ rangeForbidden s kind accessKey keys start count
+    unfolding unitsForbid anyBelow
+    one-unit-forbids one said =
+        let single : last + 1 - first ≡ 1 = omega arith in
+        let here : first + 0 ≡ first = omega arith in
+        ap not said ∙ rw (single, here) at by-unit
+
 -- one unit more that permits
 pub permits-more : (allowed : ℕ) (keys : List ℕ) (first i : ℕ) {answer : Bool} → unitsForbid allowed keys first i ≡ false
     → answer ≡ permits allowed (getD keys (first + i) 0) → answer ≡ true → unitsForbid allowed keys first (i + 1) ≡ false
@@ -81,6 +90,15 @@ unfolding rangeRecorded
 range-recorded s kind keys keys′ start count first last i positive first-is last-is h over so-far =
     let all : i ≡ unitOf s (start + (count - 1)) + 1 - unitOf s start = omega arith in
     rw (all, first-is) at so-far ∙ marked-same-places keys (recorded kind) (units-of-bytes s start count positive)
+
+pub one-unit-recorded : (s : Settings) (kind : AccessKind) (keys : List ℕ) (start count first last : ℕ) → 0 < count
+    → first ≡ unitOf s start → last ≡ unitOf s (start + (count - 1)) → first ≡ last → {key : ℕ} → key ≡ recorded kind (getD keys first 0)
+    → set keys first key ≡ rangeRecorded s kind keys start count
+unfolding written
+one-unit-recorded s kind keys start count first last positive first-is last-is one {key} key-is =
+    let here : first + 0 ≡ first = omega arith in
+    range-recorded s kind keys (set keys first key) start count first last 1 positive first-is last-is (omega arith) (omega arith)
+    (rw (here, key-is) refl)
 
 -- the unit of a CCW
 module _ (s : Settings) (keys : List ℕ) (a unit : ℕ) (whole : a % 8 ≡ 0) (unit-is : unit ≡ unitOf s a) where

@@ -11,10 +11,9 @@ mod transfer;
 use crate::program::next_ccw;
 use crate::progress::answered;
 use crate::progress::begin;
-use crate::run::execute;
 use crate::run::reply;
+use crate::run::run_program;
 use machine::Settings;
-use machine::channel::Chaining;
 use machine::channel::ChannelAnswer;
 use machine::channel::ChannelProgress;
 use machine::channel::ChannelReason;
@@ -114,18 +113,6 @@ pub fn channel_request(
     let lines = request_lines(settings, storage.len(), keys.len(), request);
     match lines {
         Standing::Answered { answer } => reply(begin(request), answer),
-        Standing::UnderWay => execute(
-            settings,
-            storage,
-            keys,
-            request,
-            from_device,
-            room,
-            request.first,
-            Chaining::First,
-            0,
-            0,
-            0,
-        ),
+        Standing::UnderWay => run_program(settings, storage, keys, request, from_device, room),
     }
 }

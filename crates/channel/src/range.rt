@@ -1,4 +1,5 @@
-// A range of bytes under the channel's key, by unit: each of its units is tested, and its key written, once.
+// A range of bytes under the channel's key, by unit: each of its units is tested, and its key written, once. A range in one unit, which most are,
+// has a way of its own: the loops cost more than they do for one key (docs/BENCHMARK.md).
 use machine::AccessKind;
 use machine::Settings;
 use storage_key::permissions;
@@ -25,6 +26,9 @@ pub(crate) fn range_forbidden(
     let allowed = permissions(kind, access_key);
     let first = unit_of(settings, start);
     let last = unit_of(settings, start + (count - 1));
+    if first == last {
+        return !permits(allowed, keys[first]);
+    }
     let mut passed = 0;
     while first + passed <= last {
         if !permits(allowed, keys[first + passed]) {
@@ -48,6 +52,11 @@ pub(crate) fn record_range(
 {
     let first = unit_of(settings, start);
     let last = unit_of(settings, start + (count - 1));
+    if first == last {
+        let only = keys[first];
+        keys[first] = recorded(kind, only);
+        return;
+    }
     let mut done = 0;
     while first + done <= last {
         let key = keys[first + done];

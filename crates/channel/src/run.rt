@@ -13,7 +13,7 @@ use machine::channel::Standing;
 ghost use Prim.Native.Nat.{_≤_};
 ghost use mathlib.Core.Path.{_≡_};
 ghost use lib.ListN.{length};
-ghost use Rattle.machine.specs.Channel.{channel, channelOutcome};
+ghost use Rattle.machine.specs.Channel.{channel, begun, channelOutcome};
 ghost use Rattle.channel.specs.Requests.{Passed, Later, chainsOn, underWay, replyOf, runFrom};
 
 // The reply of a request that has this answer.
@@ -85,7 +85,7 @@ fn run_chain(
 }
 
 // The run from the CCW to come: its chain, and the run from the CCW that a transfer in channel named, if one came, by `follow_transfer`.
-pub(crate) fn execute(
+fn execute(
     settings: Settings,
     storage: &mut [u8],
     keys: &mut [u8],
@@ -178,6 +178,55 @@ fn follow_transfer(
     match standing {
         Standing::Answered { answer } => reply(next, answer),
         Standing::UnderWay => execute(
+            settings,
+            storage,
+            keys,
+            request,
+            from_device,
+            room,
+            state.ccw,
+            chained_by,
+            state.taken,
+            state.given,
+            next.fetched,
+        ),
+    }
+}
+
+// The run of a request from its start: its first chain, and the run from the CCW that a transfer in channel named, if one came. It is `execute`
+// at the start; it stands by itself so that the compiler puts it into its caller (docs/BENCHMARK.md).
+pub(crate) fn run_program(
+    settings: Settings,
+    storage: &mut [u8],
+    keys: &mut [u8],
+    request: ChannelRequest,
+    from_device: &[u8],
+    room: &mut [u8],
+) -> ChannelReply
+    requires { ⌜ Passed settings (length (now storage)) (length (now keys)) request ⌝ }
+    ensures { λ r. ⌜ channelOutcome r (now (storage .exit)) (now (keys .exit)) (now (room .exit))
+        ≡ runFrom settings request (now («from_device» .entry))
+        (channel (now (storage .entry)) (now (keys .entry)) (now (room .entry)) (begun request)) ⌝ }
+{
+    let next = run_chain(
+        settings,
+        storage,
+        keys,
+        request,
+        from_device,
+        room,
+        request.first,
+        Chaining::First,
+        0,
+        0,
+        0,
+    );
+    let standing = next.standing;
+    let state = next.state;
+    let chained_by = state.chaining;
+    match standing {
+        Standing::Answered { answer } => reply(next, answer),
+        Standing::UnderWay => follow_transfer(
             settings,
             storage,
             keys,

@@ -1,5 +1,4 @@
 -- `channel_request`: one that its own lines refuse is answered at its start, and else the run from the start is executed. Assumes nothing.
-use native.Mathlib.Omega.{arith}
 use Rattle.channel.proofs.Replies.{lines-pass, request-refused, request-executed}
 use borrow.Author.Needs.{needs}
 use Rattle.channel.proofs.channel_request.Statement.{statement}
@@ -20,10 +19,10 @@ reply-requires c κs = search needs
 enum-told : tie.Need-enum-told
 enum-told c = search needs
 
-execute-requires : tie.Need-execute-requires
-execute-requires c κs =
+run-program-requires : tie.Need-run-program-requires
+run-program-requires c κs =
     let told = c .before .before .before in
-    (lines-pass _ _ _ _ (told .before .before .request-lines .ensures) (told .enum-told .given .1), omega arith)
+    lines-pass _ _ _ _ (told .before .before .request-lines .ensures) (told .enum-told .given .1)
 
 returns : tie.Need-returns
 returns c =
@@ -42,7 +41,7 @@ same-length-3 c = search needs
 returns-2 : tie.Need-returns-2
 returns-2 c =
     let done = c .before .before .before .before .before .before in
-    request-executed _ _ _ _ _ _ (done .execute .result) (done .execute .ensures)
+    request-executed _ _ _ _ _ _ (done .run-program .result) (done .run-program .ensures)
 
 pub channel-request-spec : {M : Type 1} → statement M
 channel-request-spec =
@@ -53,7 +52,7 @@ channel-request-spec =
     begin-requires
     reply-requires
     enum-told
-    execute-requires
+    run-program-requires
     returns
     same-length
     same-length-2

@@ -1,17 +1,12 @@
-// The channel, for programs in C, Rust and other languages: a call runs a whole request of the channel, or one step of it, on the machine that is
-// lent to it. Nothing is asked of the caller: whatever the numbers and bytes are, the call ends with an answer, or with the request under way.
-mod progress;
+// The channel, for programs in C, Rust and other languages: a call runs a whole request of the channel on the machine that is lent to it. Nothing
+// is asked of the caller: whatever the numbers and bytes are, the call ends with an answer. One step of a request is in `host_channel_step`.
+pub mod progress;
 
-use crate::progress::progress_in;
-use crate::progress::progress_valid;
 use crate::progress::put_progress;
 use crate::progress::result_of;
-use crate::progress::standing_result;
-use crate::progress::standing_status;
 use crate::progress::status_of;
 use boundary::settings_of;
 use channel::channel_request;
-use channel::channel_step;
 use machine::Settings;
 use machine::channel::ChannelAnswer;
 use machine::channel::ChannelReason;
@@ -20,13 +15,13 @@ use table::numbers::lengths_valid;
 ghost use mathlib.Core.Path.{_≡_};
 ghost use Rattle.boundary.specs.Boundary.{packed};
 ghost use Rattle.machine.specs.Channel.{channelValues};
-ghost use Rattle.host_channel.specs.ChannelCalls.{unfitAnswer, channelCall, channelCalled, channelStepCalled};
+ghost use Rattle.host_channel.specs.ChannelCalls.{unfitAnswer, channelCall, channelCalled};
 
 // How many bytes a progress has.
 const PROGRESS_LENGTH: usize = 32;
 
 // The result where the settings have another bit on, or where the bytes are no progress and the lengths are wrong.
-fn settings_refused() -> u64
+pub fn settings_refused() -> u64
     ensures { λ r. ⌜ r ≡ packed (channelValues (ChannelAnswer.Refused ChannelReason.Configuration)) ⌝ }
 {
     result_of(ChannelAnswer::Refused {
@@ -35,7 +30,7 @@ fn settings_refused() -> u64
 }
 
 // The result where the bytes are no progress: 64 for the lengths, else 65.
-fn progress_refused(settings: Settings, storage_length: usize, key_length: usize) -> u64
+pub fn progress_refused(settings: Settings, storage_length: usize, key_length: usize) -> u64
     ensures { λ r. ⌜ r ≡ packed (channelValues (unfitAnswer settings «storage_length» «key_length»)) ⌝ }
 {
     if lengths_valid(settings, storage_length, key_length) {
@@ -78,42 +73,4 @@ pub extern "C" fn storage_unit_channel(
     let answer = reply.answer;
     put_progress(progress, reply.state, reply.count, status_of(answer));
     result_of(answer)
-}
-
-// One step of a request, which is one CCW: the same operands at each step, and the progress as the step before left it, zeros at the start. While
-// the request is under way the result has the number 255; a step of a request that has answered changes nothing and gives the answer again.
-#[no_mangle]
-pub extern "C" fn storage_unit_channel_step(
-    settings: u32,
-    storage: &mut [u8],
-    keys: &mut [u8],
-    key: u32,
-    first: u32,
-    grant: u32,
-    from_device: &[u8],
-    room: &mut [u8],
-    progress: &mut [u8],
-) -> u64
-    ensures { λ r. ⌜ channelCall r (now (storage .exit)) (now (keys .exit)) (now (room .exit)) (now (progress .exit))
-        ≡ channelStepCalled settings (now (storage .entry)) (now (keys .entry)) (record { key = key; first = first; grant = grant })
-        (now («from_device» .entry)) (now (room .entry)) (now (progress .entry)) ⌝ }
-{
-    if 4 <= settings {
-        return settings_refused();
-    }
-    let machine = settings_of(settings);
-    if !progress_valid(&progress[..]) {
-        return progress_refused(machine, storage.len(), keys.len());
-    }
-    let request = ChannelRequest { key, first, grant };
-    let before = progress_in(request, &progress[..]);
-    let after = channel_step(machine, storage, keys, request, before, from_device, room);
-    let standing = after.standing;
-    put_progress(
-        progress,
-        after.state,
-        after.fetched,
-        standing_status(standing),
-    );
-    standing_result(standing)
 }

@@ -45,7 +45,7 @@ fn chaining_of(number: u32) -> Chaining
 }
 
 // The status of a request that has answered, and of any.
-pub(crate) fn status_of(answer: ChannelAnswer) -> u32
+pub fn status_of(answer: ChannelAnswer) -> u32
     ensures { λ r. ⌜ (r ≡ statusOf (some (channelValues answer))) × (r < 256) ⌝ }
 {
     match answer {
@@ -54,7 +54,7 @@ pub(crate) fn status_of(answer: ChannelAnswer) -> u32
     }
 }
 
-pub(crate) fn standing_status(standing: Standing) -> u32
+pub fn standing_status(standing: Standing) -> u32
     ensures { λ r. ⌜ (r ≡ statusOf (answerIn standing)) × (r < 256) ⌝ }
 {
     match standing {
@@ -103,7 +103,7 @@ fn standing_of(status: u32) -> Standing
 }
 
 // The bytes are a progress.
-pub(crate) fn progress_valid(bytes: &[u8]) -> bool
+pub fn progress_valid(bytes: &[u8]) -> bool
     ensures { λ r. ⌜ r ≡ progressValid (now (bytes .entry)) ⌝ }
 {
     (bytes.len() == 32)
@@ -122,7 +122,7 @@ fn number_at(bytes: &[u8], at: usize) -> usize
 }
 
 // The progress of a request in its bytes.
-pub(crate) fn progress_in(request: ChannelRequest, bytes: &[u8]) -> ChannelProgress
+pub fn progress_in(request: ChannelRequest, bytes: &[u8]) -> ChannelProgress
     requires { ⌜ length (now bytes) ≡ 32 ⌝ }
     ensures { λ r. ⌜ r ≡ progressIn request (now (bytes .entry)) ⌝ }
 {
@@ -168,7 +168,7 @@ fn put_number(bytes: &mut [u8], at: usize, value: usize)
 }
 
 // Writes a progress with this record, this count and this status.
-pub(crate) fn put_progress(bytes: &mut [u8], state: ChannelRecord, count: u32, status: u32)
+pub fn put_progress(bytes: &mut [u8], state: ChannelRecord, count: u32, status: u32)
     requires { ⌜ (length (now bytes) ≡ 32) × (status < 256) ⌝ }
     ensures { λ _. ⌜ now (bytes .exit) ≡ progressLeft state count status (now (bytes .entry)) ⌝ }
 {
@@ -182,7 +182,7 @@ pub(crate) fn put_progress(bytes: &mut [u8], state: ChannelRecord, count: u32, s
 }
 
 // The answer in one number, and the result of a request by its standing.
-pub(crate) fn result_of(answer: ChannelAnswer) -> u64
+pub fn result_of(answer: ChannelAnswer) -> u64
     ensures { λ r. ⌜ r ≡ packed (channelValues answer) ⌝ }
 {
     match answer {
@@ -191,7 +191,7 @@ pub(crate) fn result_of(answer: ChannelAnswer) -> u64
     }
 }
 
-pub(crate) fn standing_result(standing: Standing) -> u64
+pub fn standing_result(standing: Standing) -> u64
     ensures { λ r. ⌜ r ≡ resultOf (answerIn standing) ⌝ }
 {
     match standing {

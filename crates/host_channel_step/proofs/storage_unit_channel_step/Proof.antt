@@ -1,11 +1,11 @@
 -- `storage_unit_channel_step` by its tests, and then what the step leaves. Assumes nothing.
 use mathlib.Core.Path.{sym, _∙_}
 use borrow.Author.Tests.{not-true, not-false}
 use Rattle.host_channel.specs.ChannelCalls.{channelStepCalled}
 use Rattle.host_channel.proofs.Calls.{valid-length, settings-refused, progress-refused, step-called}
 use borrow.Author.Needs.{needs}
-use Rattle.host_channel.proofs.storage_unit_channel_step.Statement.{statement}
-use Rattle.host_channel.proofs.storage_unit_channel_step.Tie as tie
+use Rattle.host_channel_step.proofs.storage_unit_channel_step.Statement.{statement}
+use Rattle.host_channel_step.proofs.storage_unit_channel_step.Tie as tie
 
 settings-refused-requires : tie.Need-settings-refused-requires
 settings-refused-requires c κs = search needs

@@ -7,6 +7,7 @@ use machine::Settings;
 use machine::channel::Chaining;
 use machine::channel::ChannelAnswer;
 use machine::channel::ChannelProgress;
+use machine::channel::ChannelRecord;
 use machine::channel::ChannelReply;
 use machine::channel::ChannelRequest;
 use machine::channel::Standing;
@@ -16,15 +17,22 @@ ghost use lib.ListN.{length};
 ghost use Rattle.machine.specs.Channel.{channel, begun, channelOutcome};
 ghost use Rattle.channel.specs.Requests.{Passed, Later, chainsOn, underWay, replyOf, runFrom};
 
-// The reply of a request that has this answer.
+// The reply of a request that has this answer. The record is copied part by part: as a whole it is read back before its parts are in memory
+// (docs/BENCHMARK.md).
 pub(crate) fn reply(progress: ChannelProgress, answer: ChannelAnswer) -> ChannelReply
     ensures { λ r. ⌜ r ≡ replyOf progress answer ⌝ }
 {
     let state = progress.state;
+    let chaining = state.chaining;
     ChannelReply {
         answer,
         count: progress.fetched,
-        state,
+        state: ChannelRecord {
+            ccw: state.ccw,
+            chaining,
+            taken: state.taken,
+            given: state.given,
+        },
     }
 }
 

@@ -98,6 +98,10 @@ progressLeft r count status bytes =
     (put 4 4 (chainingNumber (r .chaining) + status * 256)
     (put 4 0 (r .ccw) bytes)))))
 
+-- the same for bytes of any length and any status: what is no progress, or no status, is not written
+abbrev pub progressPut : ChannelRecord → (count status : ℕ) → List ℕ → List ℕ
+progressPut r count status bytes = cond (eqb (length bytes) 32 && ltb status 256) (progressLeft r count status bytes) bytes
+
 -- the result: the answer in one number, as of every request; while the request is under way it has the number 255
 abbrev pub underWay : ℕ
 underWay = 255

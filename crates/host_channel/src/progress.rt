@@ -19,7 +19,7 @@ ghost use Rattle.boundary.specs.Boundary.{packed};
 ghost use Rattle.house_record.specs.Little.{little};
 ghost use Rattle.machine.specs.Channel.{channelValues, answerIn};
 ghost use Rattle.host_channel.specs.ChannelCalls.{chainingNumber, chainingOf, statusOf, statusValid, refusalOf, standingOf, progressValid, progressIn};
-ghost use Rattle.host_channel.specs.ChannelCalls.{put, progressLeft, resultOf};
+ghost use Rattle.host_channel.specs.ChannelCalls.{put, progressPut, resultOf};
 
 // How control comes to the CCW to come, as a number and back.
 fn chaining_number(chaining: Chaining) -> u32
@@ -115,7 +115,7 @@ pub fn progress_valid(bytes: &[u8]) -> bool
 
 // The number in eight bytes.
 fn number_at(bytes: &[u8], at: usize) -> usize
-    requires { ⌜ at + 8 ≤ length (now bytes) ⌝ }
+    requires { ⌜ at ≤ 24 ⌝ }
     ensures { λ r. ⌜ r ≡ little 8 (now (bytes .entry)) at ⌝ }
 {
     word(bytes, at) as usize + word(bytes, at + 4) as usize * 4294967296
@@ -123,7 +123,6 @@ fn number_at(bytes: &[u8], at: usize) -> usize
 
 // The progress of a request in its bytes.
 pub fn progress_in(request: ChannelRequest, bytes: &[u8]) -> ChannelProgress
-    requires { ⌜ length (now bytes) ≡ 32 ⌝ }
     ensures { λ r. ⌜ r ≡ progressIn request (now (bytes .entry)) ⌝ }
 {
     let status = byte(bytes, 5);
@@ -167,11 +166,16 @@ fn put_number(bytes: &mut [u8], at: usize, value: usize)
     bytes[at + 7] = (value / 256 / 256 / 256 / 256 / 256 / 256 / 256 % 256) as u8;
 }
 
-// Writes a progress with this record, this count and this status.
+// Writes a progress with this record, this count and this status. Where the bytes are not 32, or the status is none, nothing is written.
 pub fn put_progress(bytes: &mut [u8], state: ChannelRecord, count: u32, status: u32)
-    requires { ⌜ (length (now bytes) ≡ 32) × (status < 256) ⌝ }
-    ensures { λ _. ⌜ now (bytes .exit) ≡ progressLeft state count status (now (bytes .entry)) ⌝ }
+    ensures { λ _. ⌜ now (bytes .exit) ≡ progressPut state count status (now (bytes .entry)) ⌝ }
 {
+    if bytes.len() != 32 {
+        return;
+    }
+    if 256 <= status {
+        return;
+    }
     let chaining = state.chaining;
     put_word(bytes, 0, state.ccw);
     put_word(bytes, 4, chaining_number(chaining) + status * 256);

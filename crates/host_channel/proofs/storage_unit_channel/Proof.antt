@@ -1,6 +1,7 @@
 -- `storage_unit_channel` by its tests, and then what the whole request leaves. Assumes nothing.
 use borrow.Author.Tests.{ne-eqb}
 use Rattle.host_channel.specs.ChannelCalls.{channelCalled}
+use Rattle.host_channel.proofs.ProgressBytes.{put-left}
 use Rattle.host_channel.proofs.Calls.{settings-refused, progress-refused, request-called}
 use borrow.Author.Needs.{needs}
 use Rattle.host_channel.proofs.storage_unit_channel.Statement.{statement}
@@ -61,7 +62,8 @@ returns-3 c =
     let start = few .before .before .before .before .before .before in
     request-called (start .args .settings) (start .args .storage .now) (start .args .keys .now) _ (start .args .from-device .now)
     (start .args .room .now) (start .args .progress .now) (few .if1 .left) _ (set .settings-of .ensures) _ _ _ _ _ _
-    (call .channel-request .result) (sized .if2 .left) (call .channel-request .ensures .0) (numbered .status-of .ensures .0) (put .put-progress .ensures) (c .result-of .ensures)
+    (call .channel-request .result) (sized .if2 .left) (call .channel-request .ensures .0) (numbered .status-of .ensures .0)
+    (put-left _ _ _ _ _ (sized .if2 .left) (numbered .status-of .ensures .1) (put .put-progress .ensures)) (c .result-of .ensures)
 
 pub storage-unit-channel-spec : {M : Type 1} → statement M
 storage-unit-channel-spec =

@@ -2,6 +2,7 @@
 use mathlib.Core.Path.{sym, _∙_}
 use borrow.Author.Tests.{not-true, not-false}
 use Rattle.host_channel.specs.ChannelCalls.{channelStepCalled}
+use Rattle.host_channel.proofs.ProgressBytes.{put-left}
 use Rattle.host_channel.proofs.Calls.{valid-length, settings-refused, progress-refused, step-called}
 use borrow.Author.Needs.{needs}
 use Rattle.host_channel_step.proofs.storage_unit_channel_step.Statement.{statement}
@@ -37,10 +38,7 @@ returns-2 c =
     (sym (valid .progress-valid .ensures) ∙ not-true _ (tested .if2 .taken)) (set .settings-of .ensures) (c .progress-refused .ensures)
 
 progress-in-requires : tie.Need-progress-in-requires
-progress-in-requires c κs =
-    let tested = c .before in
-    let start = tested .before .before .before .before .before .before .before .before .before .before in
-    valid-length (start .args .progress .now) (sym (tested .before .progress-valid .ensures) ∙ not-false _ (tested .if2 .left))
+progress-in-requires c κs = search needs
 
 channel-step-requires : tie.Need-channel-step-requires
 channel-step-requires c κs = search needs
@@ -49,12 +47,7 @@ standing-status-requires : tie.Need-standing-status-requires
 standing-status-requires c κs = search needs
 
 put-progress-requires : tie.Need-put-progress-requires
-put-progress-requires c κs =
-    let call = c .before .before .before .before .before .before .before .before in
-    let tested = call .before .before .before .before .before .before in
-    let start = tested .before .before .before .before .before .before .before .before .before .before in
-    let valid = sym (tested .before .progress-valid .ensures) ∙ not-false _ (tested .if2 .left) in
-    (valid-length (start .args .progress .now) valid, c .standing-status .ensures .1)
+put-progress-requires c κs = search needs
 
 standing-result-requires : tie.Need-standing-result-requires
 standing-result-requires c κs = search needs
@@ -82,10 +75,13 @@ returns-3 c =
     let set = valid .before .before in
     let few = set .before in
     let start = few .before .before .before .before .before .before in
+    let is-valid = sym (valid .progress-valid .ensures) ∙ not-false _ (tested .if2 .left) in
     step-called (start .args .settings) (start .args .storage .now) (start .args .keys .now) _ (start .args .from-device .now)
     (start .args .room .now) (start .args .progress .now) (few .if1 .left) _ (set .settings-of .ensures) _ _ _ _ _ _ _ _
-    (sym (valid .progress-valid .ensures) ∙ not-false _ (tested .if2 .left)) (read .progress-in .ensures) (call .channel-step .ensures .1)
-    (numbered .standing-status .ensures .0) (put .put-progress .ensures) (c .standing-result .ensures)
+    is-valid (read .progress-in .ensures) (call .channel-step .ensures .1)
+    (numbered .standing-status .ensures .0)
+    (put-left _ _ _ _ _ (valid-length (start .args .progress .now) is-valid) (numbered .standing-status .ensures .1) (put .put-progress .ensures))
+    (c .standing-result .ensures)
 
 pub storage-unit-channel-step-spec : {M : Type 1} → statement M
 storage-unit-channel-step-spec =

@@ -235,7 +235,8 @@ impl<B: AsMut<[u8]>, P: BorrowMut<[Processor; 2]>> Machine<B, P> {
     /// the other from the first on, and those that write fill `room` from its first byte on; what
     /// is not filled is kept.
     ///
-    /// It takes about 400 bytes of the stack for each CCW, up to 128 KB; a step takes little.
+    /// It takes under 400 bytes of the stack for each transfer in channel, up to 48 KB; a step takes
+    /// little.
     ///
     /// The records of the processors are neither used nor changed: no prefix, no low-address
     /// protection. Each CCW is fetched when its turn has come, so that it is what a CCW before it

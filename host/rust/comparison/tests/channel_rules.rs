@@ -874,13 +874,13 @@ for_each_channel! {
     answered_and_wrong_lengths
 }
 
-/// The longest program in a thread whose stack is little more than the 128 KB that the header asks
-/// for. In a shorter one the process would end here.
+/// The program with the most transfers in channel, in a thread whose stack is little more than the
+/// 48 KB that the header asks for. In a shorter one the process would end here.
 #[test]
 fn stack_of_a_whole_program() {
-    let thread = thread::Builder::new().stack_size((128 + 8) * 1024);
+    let thread = thread::Builder::new().stack_size((48 + 8) * 1024);
     let run = || {
-        let mut lent = with(&[ccw(WRITE, 0, CHAIN, 1); 256]);
+        let mut lent = with(&[ccw(WRITE, 0, CHAIN, 1), ccw(TRANSFER, FIRST, 0, 0)]);
         lent.room.resize(300, 0xCC);
         let mut progress = [0; 32];
         let packed = <ByFunctions<Proved> as Channel>::call(
@@ -893,7 +893,7 @@ fn stack_of_a_whole_program() {
     };
     let end = thread.spawn(run).expect("a thread").join();
     let end = end.expect("an answer");
-    assert_eq!((end.number, end.fetched, end.given), (74, 256, 256));
+    assert_eq!((end.number, end.fetched, end.given), (74, 256, 128));
 }
 
 /// The bytes of a CCW and its parts.

@@ -1,4 +1,5 @@
--- A range by unit: what is found of its units one after another is what the rules say of its bytes. Assumes nothing.
+-- A range by unit: what is found of its units one after another is what the rules say of its bytes, since both reach the same units.
+-- Assumes nothing.
 use Prim.Native.Nat.{ℕ, zero, suc, _+_, _-_, _%_, _<_, _≤_}
 use mathlib.Core.Path.{_≡_, refl, sym, ap, _∙_}
 use mathlib.Core.Bool.{Bool, true, false, not}

@@ -21,15 +21,16 @@ use Rattle.machine.specs.declared.channel.ChannelReply.{ChannelReply}
 use Rattle.machine.specs.declared.channel.Standing.{Standing}
 use Rattle.machine.specs.declared.channel.Standing.the-variants.{UnderWay, Answered}
 use Rattle.machine.specs.declared.channel.Chaining.{Chaining}
+use Rattle.machine.specs.declared.channel.Chaining.the-variants.{First, Command, Transfer, Ended}
 use Rattle.machine.specs.declared.channel.ChannelProgress.{ChannelProgress}
-use Rattle.machine.specs.Channel.{Channel, channel, standingAs, firstRefusal, requestLines, beforeFetching, nextCcw, channelStep}
+use Rattle.machine.specs.Channel.{Channel, channel, standingAs, transferAllowed, firstRefusal, requestLines, beforeFetching, nextCcw, channelStep}
 use Rattle.machine.specs.Channel.{begun, steps, ChannelOutcome, outcomeIn, channelOutcome, channelRun, stepsThatFetch}
 use Rattle.machine.specs.Conditions.{ChannelCondition1}
 use Rattle.machine.proofs.Verdicts.{neither, not-both}
 use Rattle.machine.proofs.ChannelSteps.{channel-condition-1}
-use Rattle.channel.specs.Requests.{Passed, Later, chainsOn, underWay, standingBy, replyOf, runFrom}
+use Rattle.channel.specs.Requests.{Passed, Entered, Later, chainsOn, underWay, standingBy, replyOf, runFrom}
 use Rattle.machine.proofs.ChannelSteps.{no-line, step-under-way, step-answered}
-use Rattle.machine.proofs.ChannelRuns.{not-under-way, refused-before, refused-unfetched, still-under-way}
+use Rattle.machine.proofs.ChannelRuns.{not-under-way, refused-before, refused-unfetched, still-under-way, transfer-placed}
 use Rattle.machine.proofs.ChannelRuns.{first-of-steps, answered-stays, steps-count, steps-within}
 
 -- The lines of a request, by the standing that they give it.
@@ -131,49 +132,84 @@ module _ (s : Settings) (q : ChannelRequest) (fromDevice storage keys room : Lis
             )
             refl
 
--- A chain of CCWs that began where so many were fetched: the run from what it left is the same, and it goes on, or has ended later.
+-- the progress of a request under way, copied part by part, is that progress
+pub copied : (q : ChannelRequest) (g : ChannelProgress) {copy : ChannelProgress} → Entered q g
+    → copy ≡ underWay (g .state .ccw) (g .state .chaining) (g .state .taken) (g .state .given) (g .fetched) → copy ≡ g
+copied q g entered made = made ∙ rw (← entered .under-way) refl
+
+-- A chain of CCWs that began with so many fetched: the run from what it left is the same, and it goes on, or has ended later. A CCW was
+-- fetched where a transfer in channel may stand.
 pub record Chain (s : Settings) (q : ChannelRequest) (fromDevice : List ℕ) (fetched : ℕ) (start c : Channel) (more : Bool) : Type 0 where
   pub same : runFrom s q fromDevice c ≡ runFrom s q fromDevice start
-  pub going : more ≡ true → (c .progress .standing ≡ UnderWay) × (c .progress .fetched ≤ q .grant) × (fetched ≤ c .progress .fetched)
+  pub stands : more ≡ true → c .progress .standing ≡ UnderWay
+  pub within : more ≡ true → c .progress .fetched ≤ q .grant
+  pub later : more ≡ true → fetched ≤ c .progress .fetched
+  pub followed : more ≡ true → transferAllowed (c .progress .state .chaining) ≡ true → fetched < c .progress .fetched
   pub ended : more ≡ false → Later q fetched (c .progress)
 
+-- the chain goes on under way, and one that ends under way does so by a transfer in channel
 chains-under-way : (standing : Standing) (chaining : Chaining) → chainsOn standing chaining ≡ true → standing ≡ UnderWay
 unfolding chainsOn
 chains-under-way UnderWay chaining e = refl
 chains-under-way (Answered answer) chaining e = absurd (not-both e refl)
 
-module _ (s : Settings) (q : ChannelRequest) (fromDevice : List ℕ) (fetched : ℕ) where
-  pub chain-begins : (c : Channel) → c .progress .standing ≡ UnderWay → c .progress .fetched ≡ fetched → fetched ≤ q .grant
-      → Chain s q fromDevice fetched c c true
-  chain-begins c stands count within =
-      record { same = refl; going = λ e. (stands, omega arith, omega arith); ended = λ e. absurd (not-both refl e) }
+ends-by-transfer : (standing : Standing) (chaining : Chaining) → chainsOn standing chaining ≡ false → standing ≡ UnderWay → chaining ≡ Transfer
+unfolding chainsOn
+ends-by-transfer UnderWay First e stands = absurd (not-both refl e)
+ends-by-transfer UnderWay Command e stands = absurd (not-both refl e)
+ends-by-transfer UnderWay Transfer e stands = refl
+ends-by-transfer UnderWay Ended e stands = absurd (not-both refl e)
+ends-by-transfer (Answered answer) chaining e stands = absurd (not-under-way refl stands)
 
-  module _ (start : Channel) (storage keys room : List ℕ) (g : ChannelProgress) {more : Bool}
+module _ (s : Settings) (q : ChannelRequest) (fromDevice : List ℕ) where
+  pub chain-begins : (c : Channel) → Entered q (c .progress) → Chain s q fromDevice (c .progress .fetched) c c true
+  chain-begins c entered =
+      record {
+        same = refl;
+        stands = λ e. entered .under-way;
+        within = λ e. entered .within;
+        later = λ e. omega arith;
+        followed = λ e allowed. absurd (not-both allowed (entered .placed));
+        ended = λ e. absurd (not-both refl e);
+      }
+
+  module _ (fetched : ℕ) (start : Channel) (storage keys room : List ℕ) (g : ChannelProgress) {more : Bool}
       (chain : Chain s q fromDevice fetched start (channel storage keys room g) more) (on : more ≡ true)
       {storage′ keys′ room′ : List ℕ} {next : ChannelProgress} (did : channel storage′ keys′ room′ next ≡ nextCcw s q fromDevice (channel storage keys room g))
       {more′ : Bool} (more-is : more′ ≡ chainsOn (next .standing) (next .state .chaining)) where
     counted-on : next .standing ≡ UnderWay → (next .fetched ≡ 1 + g .fetched) × (g .fetched < q .grant)
-    counted-on stands = next-fetched s q fromDevice storage keys room g (chain .going on .0) (chain .going on .1) did stands
+    counted-on stands = next-fetched s q fromDevice storage keys room g (chain .stands on) (chain .within on) did stands
 
     under-way : more′ ≡ true → next .standing ≡ UnderWay
     under-way e = chains-under-way (next .standing) (next .state .chaining) (sym more-is ∙ e)
 
+    -- the chain has ended under way: with a transfer in channel, and a CCW was fetched before it
+    by-transfer : more′ ≡ false → next .standing ≡ UnderWay → next .state .chaining ≡ Transfer
+    by-transfer e stands = ends-by-transfer (next .standing) (next .state .chaining) (sym more-is ∙ e) stands
+
+    before-transfer : more′ ≡ false → next .standing ≡ UnderWay → fetched < g .fetched
+    before-transfer e stands =
+        let found = channel storage keys room g in
+        chain .followed on (transfer-placed s q fromDevice found (rw (← did) stands) (rw (← did) (by-transfer e stands)))
+
     pub chain-goes-on : Chain s q fromDevice fetched start (channel storage′ keys′ room′ next) more′
     chain-goes-on =
-        let before : fetched ≤ g .fetched = chain .going on .2 in
+        let before : fetched ≤ g .fetched = chain .later on in
         record {
-          same = run-same s q fromDevice storage keys room g (chain .going on .0) (chain .going on .1) did ∙ chain .same;
-          going = λ e.
-              let (count, below) = counted-on (under-way e) in
-              (under-way e, omega arith, omega arith);
+          same = run-same s q fromDevice storage keys room g (chain .stands on) (chain .within on) did ∙ chain .same;
+          stands = under-way;
+          within = λ e. omega (arith, counted-on (under-way e) .0, counted-on (under-way e) .1);
+          later = λ e. omega (arith, counted-on (under-way e) .0);
+          followed = λ e allowed. omega (arith, counted-on (under-way e) .0);
           ended = λ e.
               record {
-                more = λ stands.
-                    let (count, below) = counted-on stands in
-                    omega arith;
-                within = λ stands.
-                    let (count, below) = counted-on stands in
-                    omega arith;
+                more = λ stands. omega (arith, counted-on stands .0, before-transfer e stands);
+                entered = λ stands.
+                    record {
+                      under-way = stands;
+                      placed = ap transferAllowed (by-transfer e stands);
+                      within = omega (arith, counted-on stands .0, counted-on stands .1);
+                    };
               };
         }
 
@@ -185,10 +221,10 @@ module _ (s : Settings) (q : ChannelRequest) (fromDevice : List ℕ) (fetched : 
             let (count, below) = counted-on (under-way e) in
             omega arith
         go false e =
-            let within : g .fetched ≤ q .grant = chain .going on .1 in
+            let within : g .fetched ≤ q .grant = chain .within on in
             omega arith
 
--- The run from what a chain left, by its parts.
+-- The run from what a chain left, where it has answered, and where it goes on.
 module _ (s : Settings) (q : ChannelRequest) (fromDevice storage keys room : List ℕ) (g : ChannelProgress) {end : ChannelOutcome}
     (same : runFrom s q fromDevice (channel storage keys room g) ≡ end) where
   pub run-ends : {answer : ChannelAnswer} {reply : ChannelReply} → g .standing ≡ Answered answer → reply ≡ replyOf g answer
@@ -198,12 +234,12 @@ module _ (s : Settings) (q : ChannelRequest) (fromDevice storage keys room : Lis
       let stays = answered-stays s q fromDevice (q .grant + 1 - g .fetched) (channel storage keys room g) done in
       rw replied (rw (stays, done) at same)
 
-  pub run-goes-on : (reply : ChannelReply) {storage′ keys′ room′ : List ℕ} → g .standing ≡ UnderWay
-      → channelOutcome reply storage′ keys′ room′
-      ≡ runFrom s q fromDevice
-      (channel storage keys room (underWay (g .state .ccw) (g .state .chaining) (g .state .taken) (g .state .given) (g .fetched)))
-      → channelOutcome reply storage′ keys′ room′ ≡ end
-  run-goes-on reply stands further = further ∙ rw (← stands) same
+  pub run-goes-on : {further : ChannelOutcome} → further ≡ runFrom s q fromDevice (channel storage keys room g) → further ≡ end
+  run-goes-on goes = goes ∙ same
+
+-- A request begins under way, with no CCW fetched, and its first CCW may be no transfer in channel.
+pub begun-entered : (q : ChannelRequest) {g : ChannelProgress} → g ≡ begun q → Entered q g
+begun-entered q begins = rw begins (record { under-way = refl; placed = refl; within = omega arith })
 
 -- A whole request: its outcome, and what follows of its count.
 module _ (s : Settings) (q : ChannelRequest) (fromDevice storage keys room : List ℕ) where
@@ -239,10 +275,10 @@ module _ (s : Settings) (q : ChannelRequest) (fromDevice storage keys room : Lis
       ∙ ap (steps (q .grant) s q fromDevice) (sym first) ∙ stays in
       promised reply (rw (replied, begins, run) refl)
 
-  pub request-executed : (reply : ChannelReply) {storage′ keys′ room′ : List ℕ}
-      → channelOutcome reply storage′ keys′ room′ ≡ runFrom s q fromDevice start → Promised reply storage′ keys′ room′
+  pub request-executed : (reply : ChannelReply) {g : ChannelProgress} {storage′ keys′ room′ : List ℕ} → g ≡ begun q
+      → channelOutcome reply storage′ keys′ room′ ≡ runFrom s q fromDevice (channel storage keys room g) → Promised reply storage′ keys′ room′
   unfolding channelRun runFrom
-  request-executed reply outcome = promised reply (outcome ∙ rw (sub-zero) refl)
+  request-executed reply begins outcome = promised reply (rw begins at outcome ∙ rw (sub-zero) refl)
 
 -- what is left by the rule meets condition 1
 pub conditions-met : (s : Settings) (q : ChannelRequest) (fromDevice : List ℕ) (before : Channel) {after : Channel}

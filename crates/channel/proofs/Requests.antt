@@ -1,4 +1,5 @@
--- What is known of a request whose own lines pass: the lengths, and that a range inside storage has its keys. Assumes nothing.
+-- What is known of a request whose own lines pass: the lengths, and that a range inside storage has its keys. By the tests of
+-- line 64. Assumes nothing.
 use Prim.Native.Nat.{ℕ, _+_, _-_, _/_, _%_, _<_, _≤_}
 use mathlib.Core.Path.{_≡_}
 use mathlib.Core.Bool.{Bool, true, false, not, _&&_, _||_}

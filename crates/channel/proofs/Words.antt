@@ -1,4 +1,5 @@
--- The CCW: its numbers byte by byte, and what is known of the operation it asks for. Assumes nothing.
+-- The CCW: its numbers byte by byte, and what is known of the operation it asks for. By arithmetic on digits, and by the cases
+-- of the command. Assumes nothing.
 use Prim.Native.Nat.{ℕ, _+_, _*_, _%_, _<_}
 use mathlib.Core.Path.{_≡_, refl, _∙_}
 use mathlib.Core.Bool.{Bool, true, false, cond, not, _||_}

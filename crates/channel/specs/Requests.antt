@@ -75,10 +75,16 @@ chainsOn UnderWay Command = true
 chainsOn UnderWay Transfer = false
 chainsOn UnderWay Ended = true
 
--- a progress that, if the request is under way, has fetched more CCWs than so many, and no more than are granted
+-- control has come to a CCW that may be no transfer in channel, the first or one that a transfer named, with no more CCWs fetched than are granted
+pub record Entered (q : ChannelRequest) (g : ChannelProgress) : Type 0 where
+  pub under-way : g .standing ≡ UnderWay
+  pub placed : transferAllowed (g .state .chaining) ≡ false
+  pub within : g .fetched ≤ q .grant
+
+-- where a chain that began with so many fetched leaves the request under way, a transfer in channel and a CCW before it were fetched
 pub record Later (q : ChannelRequest) (fetched : ℕ) (g : ChannelProgress) : Type 0 where
-  pub more : g .standing ≡ UnderWay → fetched < g .fetched
-  pub within : g .standing ≡ UnderWay → g .fetched ≤ q .grant
+  pub more : g .standing ≡ UnderWay → fetched + 1 < g .fetched
+  pub entered : g .standing ≡ UnderWay → Entered q g
 
 -- the standing that the first refusal gives, if there is one
 unfoldable pub standingBy : Option ChannelReason → Standing

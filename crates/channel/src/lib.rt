@@ -11,8 +11,8 @@ mod transfer;
 use crate::program::next_ccw;
 use crate::progress::answered;
 use crate::progress::begin;
+use crate::run::execute;
 use crate::run::reply;
-use crate::run::run_program;
 use machine::Settings;
 use machine::channel::ChannelAnswer;
 use machine::channel::ChannelProgress;
@@ -110,9 +110,10 @@ pub fn channel_request(
     ensures count_of_steps { λ r. ⌜ r .count ≡ stepsThatFetch (request .grant + 1) settings request (now («from_device» .entry))
         (channel (now (storage .entry)) (now (keys .entry)) (now (room .entry)) (begun request)) ⌝ }
 {
+    let start = begin(request);
     let lines = request_lines(settings, storage.len(), keys.len(), request);
     match lines {
-        Standing::Answered { answer } => reply(begin(request), answer),
-        Standing::UnderWay => run_program(settings, storage, keys, request, from_device, room),
+        Standing::Answered { answer } => reply(start, answer),
+        Standing::UnderWay => execute(settings, storage, keys, request, from_device, room, start),
     }
 }

@@ -1,6 +1,6 @@
-// The run of a channel program whose request passed its own lines: a loop over the CCWs that follow each other by chain command, and two
-// functions that call each other where a transfer in channel comes. The part of the grant that is left falls at each call. How far the request
-// has come is passed to them as numbers, so that it is not copied through memory (docs/BENCHMARK.md).
+// The run of a channel program whose request passed its own lines. CCWs that follow each other by chain command are a loop; where a transfer in
+// channel comes, two functions call each other. The part of the grant that is left, from which the transfer is taken as it is followed, falls at
+// each call.
 use crate::program::next_ccw;
 use crate::progress::under_way;
 use machine::Settings;
@@ -11,11 +11,10 @@ use machine::channel::ChannelRecord;
 use machine::channel::ChannelReply;
 use machine::channel::ChannelRequest;
 use machine::channel::Standing;
-ghost use Prim.Native.Nat.{_≤_};
 ghost use mathlib.Core.Path.{_≡_};
 ghost use lib.ListN.{length};
-ghost use Rattle.machine.specs.Channel.{channel, begun, channelOutcome};
-ghost use Rattle.channel.specs.Requests.{Passed, Later, chainsOn, underWay, replyOf, runFrom};
+ghost use Rattle.machine.specs.Channel.{channel, channelOutcome};
+ghost use Rattle.channel.specs.Requests.{Passed, Entered, Later, chainsOn, replyOf, runFrom};
 
 // The reply of a request that has this answer. The record is copied part by part: as a whole it is read back before its parts are in memory
 // (docs/BENCHMARK.md).
@@ -54,7 +53,8 @@ fn chains_on(progress: ChannelProgress) -> bool
     }
 }
 
-// The CCWs from the one to come on that follow each other by chain command, up to an answer or to a transfer in channel.
+// The CCWs from the one to come on that follow each other by chain command, up to an answer or to a transfer in channel. The progress is copied
+// part by part, so that the compiler keeps it in registers (docs/BENCHMARK.md).
 fn run_chain(
     settings: Settings,
     storage: &mut [u8],
@@ -62,20 +62,17 @@ fn run_chain(
     request: ChannelRequest,
     from_device: &[u8],
     room: &mut [u8],
-    ccw: u32,
-    chaining: Chaining,
-    taken: usize,
-    given: usize,
-    fetched: u32,
+    start: ChannelProgress,
 ) -> ChannelProgress
     requires { ⌜ Passed settings (length (now storage)) (length (now keys)) request ⌝ }
-    requires { ⌜ fetched ≤ request .grant ⌝ }
+    requires { ⌜ Entered request start ⌝ }
     ensures { λ r. ⌜ runFrom settings request (now («from_device» .entry)) (channel (now (storage .exit)) (now (keys .exit)) (now (room .exit)) r)
-        ≡ runFrom settings request (now («from_device» .entry))
-        (channel (now (storage .entry)) (now (keys .entry)) (now (room .entry)) (underWay ccw chaining taken given fetched)) ⌝ }
-    ensures { λ r. ⌜ Later request fetched r ⌝ }
+        ≡ runFrom settings request (now («from_device» .entry)) (channel (now (storage .entry)) (now (keys .entry)) (now (room .entry)) start) ⌝ }
+    ensures { λ r. ⌜ Later request (start .fetched) r ⌝ }
 {
-    let mut progress = under_way(ccw, chaining, taken, given, fetched);
+    let state = start.state;
+    let chaining = state.chaining;
+    let mut progress = under_way(state.ccw, chaining, state.taken, state.given, start.fetched);
     let mut more = true;
     while more {
         progress = next_ccw(
@@ -92,42 +89,23 @@ fn run_chain(
     progress
 }
 
-// The run from the CCW to come: its chain, and the run from the CCW that a transfer in channel named, if one came, by `follow_transfer`.
-fn execute(
+// The run from the CCW to come: its chain, and then, if it ends with a transfer in channel, what follows that.
+pub(crate) fn execute(
     settings: Settings,
     storage: &mut [u8],
     keys: &mut [u8],
     request: ChannelRequest,
     from_device: &[u8],
     room: &mut [u8],
-    ccw: u32,
-    chaining: Chaining,
-    taken: usize,
-    given: usize,
-    fetched: u32,
+    start: ChannelProgress,
 ) -> ChannelReply
     requires { ⌜ Passed settings (length (now storage)) (length (now keys)) request ⌝ }
-    requires { ⌜ fetched ≤ request .grant ⌝ }
+    requires { ⌜ Entered request start ⌝ }
     ensures { λ r. ⌜ channelOutcome r (now (storage .exit)) (now (keys .exit)) (now (room .exit))
-        ≡ runFrom settings request (now («from_device» .entry))
-        (channel (now (storage .entry)) (now (keys .entry)) (now (room .entry)) (underWay ccw chaining taken given fetched)) ⌝ }
+        ≡ runFrom settings request (now («from_device» .entry)) (channel (now (storage .entry)) (now (keys .entry)) (now (room .entry)) start) ⌝ }
 {
-    let next = run_chain(
-        settings,
-        storage,
-        keys,
-        request,
-        from_device,
-        room,
-        ccw,
-        chaining,
-        taken,
-        given,
-        fetched,
-    );
+    let next = run_chain(settings, storage, keys, request, from_device, room, start);
     let standing = next.standing;
-    let state = next.state;
-    let chained_by = state.chaining;
     match standing {
         Standing::Answered { answer } => reply(next, answer),
         Standing::UnderWay => follow_transfer(
@@ -137,17 +115,12 @@ fn execute(
             request,
             from_device,
             room,
-            state.ccw,
-            chained_by,
-            state.taken,
-            state.given,
-            next.fetched,
+            next,
         ),
     }
 }
 
-// The run from a CCW that a transfer in channel named: its chain, which begins with no other transfer in channel, and the run from the CCW that
-// the next one named, by `execute`.
+// A transfer in channel hands control to the CCW it names: the run from there.
 fn follow_transfer(
     settings: Settings,
     storage: &mut [u8],
@@ -155,97 +128,12 @@ fn follow_transfer(
     request: ChannelRequest,
     from_device: &[u8],
     room: &mut [u8],
-    ccw: u32,
-    chaining: Chaining,
-    taken: usize,
-    given: usize,
-    fetched: u32,
+    named: ChannelProgress,
 ) -> ChannelReply
     requires { ⌜ Passed settings (length (now storage)) (length (now keys)) request ⌝ }
-    requires { ⌜ fetched ≤ request .grant ⌝ }
+    requires { ⌜ Entered request named ⌝ }
     ensures { λ r. ⌜ channelOutcome r (now (storage .exit)) (now (keys .exit)) (now (room .exit))
-        ≡ runFrom settings request (now («from_device» .entry))
-        (channel (now (storage .entry)) (now (keys .entry)) (now (room .entry)) (underWay ccw chaining taken given fetched)) ⌝ }
+        ≡ runFrom settings request (now («from_device» .entry)) (channel (now (storage .entry)) (now (keys .entry)) (now (room .entry)) named) ⌝ }
 {
-    let next = run_chain(
-        settings,
-        storage,
-        keys,
-        request,
-        from_device,
-        room,
-        ccw,
-        chaining,
-        taken,
-        given,
-        fetched,
-    );
-    let standing = next.standing;
-    let state = next.state;
-    let chained_by = state.chaining;
-    match standing {
-        Standing::Answered { answer } => reply(next, answer),
-        Standing::UnderWay => execute(
-            settings,
-            storage,
-            keys,
-            request,
-            from_device,
-            room,
-            state.ccw,
-            chained_by,
-            state.taken,
-            state.given,
-            next.fetched,
-        ),
-    }
-}
-
-// The run of a request from its start: its first chain, and the run from the CCW that a transfer in channel named, if one came. It is `execute`
-// at the start; it stands by itself so that the compiler puts it into its caller (docs/BENCHMARK.md).
-pub(crate) fn run_program(
-    settings: Settings,
-    storage: &mut [u8],
-    keys: &mut [u8],
-    request: ChannelRequest,
-    from_device: &[u8],
-    room: &mut [u8],
-) -> ChannelReply
-    requires { ⌜ Passed settings (length (now storage)) (length (now keys)) request ⌝ }
-    ensures { λ r. ⌜ channelOutcome r (now (storage .exit)) (now (keys .exit)) (now (room .exit))
-        ≡ runFrom settings request (now («from_device» .entry))
-        (channel (now (storage .entry)) (now (keys .entry)) (now (room .entry)) (begun request)) ⌝ }
-{
-    let next = run_chain(
-        settings,
-        storage,
-        keys,
-        request,
-        from_device,
-        room,
-        request.first,
-        Chaining::First,
-        0,
-        0,
-        0,
-    );
-    let standing = next.standing;
-    let state = next.state;
-    let chained_by = state.chaining;
-    match standing {
-        Standing::Answered { answer } => reply(next, answer),
-        Standing::UnderWay => follow_transfer(
-            settings,
-            storage,
-            keys,
-            request,
-            from_device,
-            room,
-            state.ccw,
-            chained_by,
-            state.taken,
-            state.given,
-            next.fetched,
-        ),
-    }
+    execute(settings, storage, keys, request, from_device, room, named)
 }

@@ -1,14 +1,15 @@
 -- The rules alone: what a step does with the count of CCWs fetched, and the run of a request. A request that has answered stays as it is; a step
 -- that leaves the request under way fetched a CCW, which was granted; so a step counts one exactly where it fetches, and no more are counted
--- than are granted.
+-- than are granted. A transfer in channel that was followed stood where one may stand.
 -- Assumes nothing.
 use Prim.Native.Nat.{ℕ, zero, suc, _+_, _-_, _<_, _≤_}
-use mathlib.Core.Path.{_≡_, refl, _∙_}
+use mathlib.Core.Path.{_≡_, refl, sym, ap, _∙_}
 use mathlib.Core.Bool.{Bool, true, false, cond, not, _&&_}
 use mathlib.Core.List.{List, [], _∷_, _++_}
 use mathlib.Core.Option.{Option, none, some}
 use native.Mathlib.Omega.{arith}
 use lib.ListN.{length}
+use borrow.Author.Tests.{not-false}
 use Rattle.machine.specs.declared.Settings.{Settings}
 use Rattle.machine.specs.declared.AccessKind.the-variants.{Fetch, Store}
 use Rattle.machine.specs.declared.channel.ChannelRequest.{ChannelRequest}
@@ -16,12 +17,16 @@ use Rattle.machine.specs.declared.channel.ChannelReason.{ChannelReason}
 use Rattle.machine.specs.declared.channel.ChannelAnswer.{ChannelAnswer}
 use Rattle.machine.specs.declared.channel.ChannelOperation.{ChannelOperation}
 use Rattle.machine.specs.declared.channel.ChannelOperation.the-variants.{TransferInChannel, Data, Invalid}
+use Rattle.machine.specs.declared.channel.Chaining.the-variants.{Command, Transfer, Ended}
 use Rattle.machine.specs.declared.channel.Standing.{Standing}
 use Rattle.machine.specs.declared.channel.Standing.the-variants.{UnderWay, Answered}
 use Rattle.machine.specs.Channel.{Channel, refused, operationOf, ccwAt, firstRefusal, beforeFetching}
-use Rattle.machine.specs.Channel.{fetchingForbidden, beforeTransfer, dataForbidden, withCcwFetched, carriedOut, unlessRefused, unlessForbidden}
+use Rattle.machine.specs.Channel.{fetchingForbidden, transferAllowed, beforeTransfer, dataForbidden, withCcwFetched, carriedOut}
+use Rattle.machine.specs.Channel.{unlessRefused, unlessForbidden}
 use Rattle.machine.specs.Channel.{obeyed, nextCcw, stepBy, channelStep, steps, unrefused, fetchesBy, fetchesCcw, stepsThatFetch}
-use Rattle.machine.proofs.ChannelSteps.{fetchable, step-answered}
+use Rattle.machine.proofs.Verdicts.{not-both}
+use Rattle.machine.proofs.ChannelSteps.{operationFound, CcwOutcome, unfetched, unread, unobeyed, untransferred, obeyedWhole, ccw-outcome}
+use Rattle.machine.proofs.ChannelSteps.{no-line, fetchable, step-answered}
 
 -- a standing is not both
 pub not-under-way : {standing : Standing} {answer : ChannelAnswer} → standing ≡ Answered answer → standing ≡ UnderWay → ⊥
@@ -29,6 +34,11 @@ not-under-way p q = let z : _≡_ {A = ℕ} 0 1 = cc in omega arith
 
 not-refused : {found : Option ChannelReason} {r : ChannelReason} → found ≡ some r → found ≡ none → ⊥
 not-refused p q = let z : _≡_ {A = ℕ} 0 1 = cc in omega arith
+
+-- data leaves control to a CCW by chain command, or to none
+by-data : (chains : Bool) → cond chains Command Ended ≡ Transfer → ⊥
+by-data true e = let z : _≡_ {A = ℕ} 0 1 = cc in omega arith
+by-data false e = let z : _≡_ {A = ℕ} 0 1 = cc in omega arith
 
 -- a refusal by the first lines is that of all
 pub refused-before : (first rest : List (Bool × ChannelReason)) (r : ChannelReason) → firstRefusal first ≡ some r → firstRefusal (first ++ rest) ≡ some r
@@ -93,6 +103,26 @@ module _ (s : Settings) (q : ChannelRequest) (fromDevice : List ℕ) where
         go (some r) forbidden e stands = absurd (not-under-way refl stands)
         go none true e stands = absurd (not-under-way refl stands)
         go none false e stands = (fetched-count, fetchable s q c e .granted)
+
+    -- if it is still under way by a transfer in channel, that was not the first CCW, and stood not straight after another
+    pub transfer-placed : nextCcw s q fromDevice c .progress .standing ≡ UnderWay → nextCcw s q fromDevice c .progress .state .chaining ≡ Transfer
+        → transferAllowed (c .progress .state .chaining) ≡ true
+    unfolding withCcwFetched beforeTransfer carriedOut
+    transfer-placed stands by-transfer = go (ccw-outcome s q fromDevice c)
+      where
+        obeyed-by : (o : ChannelOperation) → beforeTransfer (length fromDevice) (withCcwFetched s c) o ≡ none
+            → carriedOut o s fromDevice (withCcwFetched s c) .progress .state .chaining ≡ Transfer → transferAllowed (c .progress .state .chaining) ≡ true
+        obeyed-by (TransferInChannel address) passed e = not-false _ (no-line _ _ passed .0)
+        obeyed-by (Data Fetch address count chains) passed e = absurd (by-data chains e)
+        obeyed-by (Data Store address count chains) passed e = absurd (by-data chains e)
+        obeyed-by Invalid passed e = absurd (not-both refl (no-line _ _ passed .0))
+
+        go : CcwOutcome s q fromDevice c (nextCcw s q fromDevice c) → transferAllowed (c .progress .state .chaining) ≡ true
+        go (unfetched r h f) = absurd (not-under-way (ap (λ d. d .progress .standing) f) stands)
+        go (unread h k f) = absurd (not-under-way (ap (λ d. d .progress .standing) f) stands)
+        go (unobeyed r h k l f) = absurd (not-under-way (ap (λ d. d .progress .standing) f) stands)
+        go (untransferred h k l m f) = absurd (not-under-way (ap (λ d. d .progress .standing) f) stands)
+        go (obeyedWhole h k l m f) = obeyed-by (operationFound c) l (ap (λ d. d .progress .state .chaining) (sym f) ∙ by-transfer)
 
     pub refused-unfetched : (r : ChannelReason) → beforeFetching s q c ≡ some r → nextCcw s q fromDevice c ≡ refused r c
     unfolding nextCcw

@@ -1,8 +1,11 @@
 -- `channel_request`: one that its own lines refuse is answered at its start, and else the run from the start is executed. Assumes nothing.
-use Rattle.channel.proofs.Replies.{lines-pass, request-refused, request-executed}
+use Rattle.channel.proofs.Replies.{lines-pass, begun-entered, request-refused, request-executed}
 use borrow.Author.Needs.{needs}
 use Rattle.channel.proofs.channel_request.Statement.{statement}
 use Rattle.channel.proofs.channel_request.Tie as tie
+
+begin-requires : tie.Need-begin-requires
+begin-requires c κs = search needs
 
 request-lines-requires : tie.Need-request-lines-requires
 request-lines-requires c κs = search needs
@@ -10,24 +13,23 @@ request-lines-requires c κs = search needs
 enum-known-lines : tie.Need-enum-known-lines
 enum-known-lines c = search needs
 
-begin-requires : tie.Need-begin-requires
-begin-requires c κs = search needs
-
 reply-requires : tie.Need-reply-requires
 reply-requires c κs = search needs
 
 enum-told : tie.Need-enum-told
 enum-told c = search needs
 
-run-program-requires : tie.Need-run-program-requires
-run-program-requires c κs =
+execute-requires : tie.Need-execute-requires
+execute-requires c κs =
     let told = c .before .before .before in
-    lines-pass _ _ _ _ (told .before .before .request-lines .ensures) (told .enum-told .given .1)
+    let lines = told .before .before in
+    (lines-pass _ _ _ _ (lines .request-lines .ensures) (told .enum-told .given .1), begun-entered _ (lines .before .begin .ensures))
 
 returns : tie.Need-returns
 returns c =
-    let told = c .before .before .before in
-    request-refused _ _ _ _ _ _ (told .before .before .request-lines .ensures) (told .lines .given .1) (c .before .begin .ensures) (c .reply .ensures)
+    let told = c .before .before in
+    let lines = told .before .before in
+    request-refused _ _ _ _ _ _ (lines .request-lines .ensures) (told .lines .given .1) (lines .before .begin .ensures) (c .reply .ensures)
 
 same-length : tie.Need-same-length
 same-length c = search needs
@@ -41,18 +43,19 @@ same-length-3 c = search needs
 returns-2 : tie.Need-returns-2
 returns-2 c =
     let done = c .before .before .before .before .before .before in
-    request-executed _ _ _ _ _ _ (done .run-program .result) (done .run-program .ensures)
+    let begins = done .before .before .before .before .before .before .before in
+    request-executed _ _ _ _ _ _ (done .execute .result) (begins .begin .ensures) (done .execute .ensures)
 
 pub channel-request-spec : {M : Type 1} → statement M
 channel-request-spec =
     tie.close
     (tie.spec
+    begin-requires
     request-lines-requires
     enum-known-lines
-    begin-requires
     reply-requires
     enum-told
-    run-program-requires
+    execute-requires
     returns
     same-length
     same-length-2

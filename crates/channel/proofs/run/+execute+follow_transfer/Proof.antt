@@ -1,11 +1,11 @@
--- The cycle of calls {execute, follow_transfer}: the measure of each is the part of the grant that is left. A chain that leaves the request under
--- way has counted a CCW that was granted, so it falls at each call; and what both mean is one run, so that the same laws serve both.
--- Assumes nothing.
+-- The cycle of calls {execute, follow_transfer}: the measure of each is the part of the grant that is left, from which `follow_transfer` has still to
+-- take the transfer in channel. A chain that leaves the request under way has counted the transfer and a CCW before it, so the measure falls at each
+-- call; and what both mean is one run. Assumes nothing.
 use native.Mathlib.Omega.{arith}
 use Rattle.channel.proofs.Requests.{still-passed}
 use Rattle.channel.proofs.Replies.{run-ends, run-goes-on}
 use borrow.Author.Needs.{needs}
-use Prim.Native.Nat.{ℕ, _-_, _<_}
+use Prim.Native.Nat.{ℕ, _+_, _-_, _<_}
 use borrow.Fn.Kinds.{In}
 use borrow.Fn.PlainCycle.{Measures, is, falls, and}
 use Rattle.channel.proofs.run.execute.Reads as execute
@@ -20,10 +20,10 @@ use Rattle.channel.proofs.run.+execute+follow_transfer.{statement}
 use Rattle.channel.proofs.run.+execute+follow_transfer.Tie.{close}
 
 abbrev μ-execute : Measures 4 execute-kinds.ps ℕ
-μ-execute κs a = a .1 .1 .1 .0 .grant - a .1 .1 .1 .1 .1 .1 .1 .1 .1 .1 .0
+μ-execute κs a = a .1 .1 .1 .0 .grant - a .1 .1 .1 .1 .1 .1 .0 .fetched
 
 abbrev μ-follow-transfer : Measures 4 follow-transfer-kinds.ps ℕ
-μ-follow-transfer κs a = a .1 .1 .1 .0 .grant - a .1 .1 .1 .1 .1 .1 .1 .1 .1 .1 .0
+μ-follow-transfer κs a = a .1 .1 .1 .0 .grant + 1 - a .1 .1 .1 .1 .1 .1 .0 .fetched
 
 abbrev execute-at : ℕ → In 4 execute-kinds.ps
 execute-at t = and 4 execute-kinds.ps (is 4 execute-kinds.ps μ-execute t) execute.Pre
@@ -99,12 +99,12 @@ execute-follow-transfer-requires : (t : ℕ) → execute-lts.Need-follow-transfe
 ) (execute-at t) execute.Post
 execute-follow-transfer-requires t c κs =
     let told = c .before .before .before in
-    let did = told .before .before .before .before .before .before .before .before .before in
+    let did = told .before .before .before .before .before .before .before .before in
     let start = did .before .before .before .before .before .before .before .before in
     let passed = still-passed (start .pre .1 .0) (did .run-chain .kept .1 .0) (did .run-chain .kept .1 .1 .0) in
     let more = did .run-chain .ensures .1 .more (told .enum-told .given .1) in
-    let within = did .run-chain .ensures .1 .within (told .enum-told .given .1) in
-    (omega (arith, more, within, start .pre .0), (passed, within))
+    let entered = did .run-chain .ensures .1 .entered (told .enum-told .given .1) in
+    (omega (arith, more, entered .within, start .pre .0), (passed, entered))
 
 execute-same-length : (t : ℕ) → execute-lts.Need-same-length (
   run-chain-reads.Asked,
@@ -146,7 +146,7 @@ execute-returns : (t : ℕ) → execute-lts.Need-returns (
 ) (execute-at t) execute.Post
 execute-returns t c =
     let told = c .before .before in
-    let did = told .before .before .before .before .before .before .before .before .before in
+    let did = told .before .before .before .before .before .before .before .before in
     run-ends _ _ _ _ _ _ _ (did .run-chain .ensures .0) (told .standing .given .1) (c .reply .ensures)
 
 execute-same-length-4 : (t : ℕ) → execute-lts.Need-same-length-4 (
@@ -189,155 +189,42 @@ execute-returns-2 : (t : ℕ) → execute-lts.Need-returns-2 (
 ) (execute-at t) execute.Post
 execute-returns-2 t c =
     let further = c .before .before .before .before .before .before in
-    let told = further .before .before .before .before in
-    let did = told .before .before .before .before .before .before .before .before .before in
-    run-goes-on _ _ _ _ _ _ _ (did .run-chain .ensures .0) (further .follow-transfer .result) (told .enum-told .given .1) (further .follow-transfer .ensures)
-
-follow-transfer-run-chain-requires : (t : ℕ) → follow-transfer-lts.Need-run-chain-requires (
-  run-chain-reads.Asked,
-  run-chain-reads.Learnt,
-  reply-reads.Asked,
-  reply-reads.Learnt,
-  execute-below t,
-  execute.Post,
-) (follow-transfer-at t) follow-transfer.Post
-follow-transfer-run-chain-requires t c κs =
-    let start = c .before .before .before .before .before .before .before in
-    start .pre .1
-
-follow-transfer-enum-known-standing : (t : ℕ) → follow-transfer-lts.Need-enum-known-standing (
-  run-chain-reads.Asked,
-  run-chain-reads.Learnt,
-  reply-reads.Asked,
-  reply-reads.Learnt,
-  execute-below t,
-  execute.Post,
-) (follow-transfer-at t) follow-transfer.Post
-follow-transfer-enum-known-standing t c = search needs
-
-follow-transfer-reply-requires : (t : ℕ) → follow-transfer-lts.Need-reply-requires (
-  run-chain-reads.Asked,
-  run-chain-reads.Learnt,
-  reply-reads.Asked,
-  reply-reads.Learnt,
-  execute-below t,
-  execute.Post,
-) (follow-transfer-at t) follow-transfer.Post
-follow-transfer-reply-requires t c κs = search needs
-
-follow-transfer-enum-told : (t : ℕ) → follow-transfer-lts.Need-enum-told (
-  run-chain-reads.Asked,
-  run-chain-reads.Learnt,
-  reply-reads.Asked,
-  reply-reads.Learnt,
-  execute-below t,
-  execute.Post,
-) (follow-transfer-at t) follow-transfer.Post
-follow-transfer-enum-told t c = search needs
+    let did = further .before .before .before .before .before .before .before .before .before .before .before .before in
+    run-goes-on _ _ _ _ _ _ _ (did .run-chain .ensures .0) (further .follow-transfer .ensures)
 
 follow-transfer-execute-requires : (t : ℕ) → follow-transfer-lts.Need-execute-requires (
-  run-chain-reads.Asked,
-  run-chain-reads.Learnt,
-  reply-reads.Asked,
-  reply-reads.Learnt,
   execute-below t,
   execute.Post,
 ) (follow-transfer-at t) follow-transfer.Post
 follow-transfer-execute-requires t c κs =
-    let told = c .before .before .before in
-    let did = told .before .before .before .before .before .before .before .before .before in
-    let start = did .before .before .before .before .before .before .before .before in
-    let passed = still-passed (start .pre .1 .0) (did .run-chain .kept .1 .0) (did .run-chain .kept .1 .1 .0) in
-    let more = did .run-chain .ensures .1 .more (told .enum-told .given .1) in
-    let within = did .run-chain .ensures .1 .within (told .enum-told .given .1) in
-    (omega (arith, more, within, start .pre .0), (passed, within))
+    let start = c .before .before .before .before .before .before .before in
+    (omega (arith, start .pre .0, start .pre .1 .1 .within), start .pre .1)
 
 follow-transfer-same-length : (t : ℕ) → follow-transfer-lts.Need-same-length (
-  run-chain-reads.Asked,
-  run-chain-reads.Learnt,
-  reply-reads.Asked,
-  reply-reads.Learnt,
   execute-below t,
   execute.Post,
 ) (follow-transfer-at t) follow-transfer.Post
 follow-transfer-same-length t c = search needs
 
 follow-transfer-same-length-2 : (t : ℕ) → follow-transfer-lts.Need-same-length-2 (
-  run-chain-reads.Asked,
-  run-chain-reads.Learnt,
-  reply-reads.Asked,
-  reply-reads.Learnt,
   execute-below t,
   execute.Post,
 ) (follow-transfer-at t) follow-transfer.Post
 follow-transfer-same-length-2 t c = search needs
 
 follow-transfer-same-length-3 : (t : ℕ) → follow-transfer-lts.Need-same-length-3 (
-  run-chain-reads.Asked,
-  run-chain-reads.Learnt,
-  reply-reads.Asked,
-  reply-reads.Learnt,
   execute-below t,
   execute.Post,
 ) (follow-transfer-at t) follow-transfer.Post
 follow-transfer-same-length-3 t c = search needs
 
 follow-transfer-returns : (t : ℕ) → follow-transfer-lts.Need-returns (
-  run-chain-reads.Asked,
-  run-chain-reads.Learnt,
-  reply-reads.Asked,
-  reply-reads.Learnt,
   execute-below t,
   execute.Post,
 ) (follow-transfer-at t) follow-transfer.Post
 follow-transfer-returns t c =
-    let told = c .before .before in
-    let did = told .before .before .before .before .before .before .before .before .before in
-    run-ends _ _ _ _ _ _ _ (did .run-chain .ensures .0) (told .standing .given .1) (c .reply .ensures)
-
-follow-transfer-same-length-4 : (t : ℕ) → follow-transfer-lts.Need-same-length-4 (
-  run-chain-reads.Asked,
-  run-chain-reads.Learnt,
-  reply-reads.Asked,
-  reply-reads.Learnt,
-  execute-below t,
-  execute.Post,
-) (follow-transfer-at t) follow-transfer.Post
-follow-transfer-same-length-4 t c = search needs
-
-follow-transfer-same-length-5 : (t : ℕ) → follow-transfer-lts.Need-same-length-5 (
-  run-chain-reads.Asked,
-  run-chain-reads.Learnt,
-  reply-reads.Asked,
-  reply-reads.Learnt,
-  execute-below t,
-  execute.Post,
-) (follow-transfer-at t) follow-transfer.Post
-follow-transfer-same-length-5 t c = search needs
-
-follow-transfer-same-length-6 : (t : ℕ) → follow-transfer-lts.Need-same-length-6 (
-  run-chain-reads.Asked,
-  run-chain-reads.Learnt,
-  reply-reads.Asked,
-  reply-reads.Learnt,
-  execute-below t,
-  execute.Post,
-) (follow-transfer-at t) follow-transfer.Post
-follow-transfer-same-length-6 t c = search needs
-
-follow-transfer-returns-2 : (t : ℕ) → follow-transfer-lts.Need-returns-2 (
-  run-chain-reads.Asked,
-  run-chain-reads.Learnt,
-  reply-reads.Asked,
-  reply-reads.Learnt,
-  execute-below t,
-  execute.Post,
-) (follow-transfer-at t) follow-transfer.Post
-follow-transfer-returns-2 t c =
-    let further = c .before .before .before .before .before .before in
-    let told = further .before .before .before .before in
-    let did = told .before .before .before .before .before .before .before .before .before in
-    run-goes-on _ _ _ _ _ _ _ (did .run-chain .ensures .0) (further .execute .result) (told .enum-told .given .1) (further .execute .ensures)
+    let done = c .before .before .before .before .before .before in
+    done .execute .ensures
 
 pub +execute+follow-transfer-spec : {M : Type 1} → statement M
 +execute+follow-transfer-spec = close μ-execute μ-follow-transfer (λ t. execute-lts.spec (
@@ -363,26 +250,12 @@ pub +execute+follow-transfer-spec : {M : Type 1} → statement M
     (execute-same-length-5 t)
     (execute-same-length-6 t)
     (execute-returns-2 t))
-    λ t. follow-transfer-lts.spec (
-      run-chain-reads.Asked,
-      run-chain-reads.Learnt,
-      reply-reads.Asked,
-      reply-reads.Learnt,
-      execute-below t,
-      execute.Post,
-    )
+    λ t. follow-transfer-lts.spec
+    (execute-below t, execute.Post)
     (follow-transfer-at t)
     follow-transfer.Post
-    (follow-transfer-run-chain-requires t)
-    (follow-transfer-enum-known-standing t)
-    (follow-transfer-reply-requires t)
-    (follow-transfer-enum-told t)
     (follow-transfer-execute-requires t)
     (follow-transfer-same-length t)
     (follow-transfer-same-length-2 t)
     (follow-transfer-same-length-3 t)
     (follow-transfer-returns t)
-    (follow-transfer-same-length-4 t)
-    (follow-transfer-same-length-5 t)
-    (follow-transfer-same-length-6 t)
-    (follow-transfer-returns-2 t)

@@ -6,18 +6,18 @@ use mathlib.Core.Bool.{cond}
 use lib.ListN.{length}
 use Rattle.machine.specs.Channel.{channel}
 use Rattle.channel.proofs.Requests.{still-passed}
-use Rattle.channel.proofs.Replies.{Chain, chain-begins, chain-goes-on, chain-falls}
+use Rattle.channel.proofs.Replies.{copied, Chain, chain-begins, chain-goes-on, chain-falls}
 use borrow.Author.Needs.{needs}
 use Rattle.channel.proofs.run.run_chain.Statement.{statement}
 use Rattle.channel.proofs.run.run_chain.Tie as tie
 
 abbrev Inv-loop : tie.InvT-loop
-Inv-loop settings storage₀ keys₀ request from-device room₀ ccw taken given fetched progress₀ more₀ storage keys room progress more =
+Inv-loop settings storage₀ keys₀ request from-device room₀ progress₀ more₀ storage keys room progress more =
     (length storage ≡ length storage₀) × (length keys ≡ length keys₀) × (length room ≡ length room₀)
-    × Chain settings request from-device fetched (channel storage₀ keys₀ room₀ progress₀) (channel storage keys room progress) more
+    × Chain settings request from-device (progress₀ .fetched) (channel storage₀ keys₀ room₀ progress₀) (channel storage keys room progress) more
 
 abbrev μ-loop : tie.MeasureT-loop
-μ-loop settings storage₀ keys₀ request from-device room₀ ccw taken given fetched progress₀ more₀ storage keys room progress more =
+μ-loop settings storage₀ keys₀ request from-device room₀ progress₀ more₀ storage keys room progress more =
     cond more (request .grant + 1 - progress .fetched) 0
 
 under-way-requires : tie.Need-under-way-requires Inv-loop μ-loop
@@ -25,13 +25,14 @@ under-way-requires c κs = search needs
 
 loop-holds : tie.Need-loop-holds Inv-loop μ-loop
 loop-holds c =
-    let start = c .before .before .before .before .before in
-    (refl, refl, refl, chain-begins _ _ _ _ _ (rw (c .under-way .ensures) refl) (rw (c .under-way .ensures) refl) (start .pre .1))
+    let start = c .before .before .before .before .before .before in
+    let same = copied _ _ (start .pre .1) (c .under-way .ensures) in
+    (refl, refl, refl, chain-begins _ _ _ _ (rw same (start .pre .1)))
 
 next-ccw-requires : tie.Need-next-ccw-requires Inv-loop μ-loop
 next-ccw-requires c κs =
     let turn = c .before .before .before .before in
-    let start = turn .before .before .before .before .before .before in
+    let start = turn .before .before .before .before .before .before .before in
     still-passed (start .pre .0) (turn .loop .inv .0) (turn .loop .inv .1)
 
 chains-on-requires : tie.Need-chains-on-requires Inv-loop μ-loop
@@ -66,8 +67,11 @@ same-length-3 c = c .before .loop .inv .2
 returns : tie.Need-returns Inv-loop μ-loop
 returns c =
     let turn = c .before in
+    let begins = turn .before in
+    let start = begins .before .before .before .before .before .before in
+    let same = copied _ _ (start .pre .1) (begins .under-way .ensures) in
     let chain = turn .loop .inv .3 in
-    (rw (← turn .before .under-way .ensures) (chain .same), chain .ended (c .loop-test .left))
+    (rw (← same) (chain .same), rw (← same) (chain .ended (c .loop-test .left)))
 
 pub run-chain-spec : {M : Type 1} → statement M
 run-chain-spec =

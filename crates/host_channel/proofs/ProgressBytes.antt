@@ -1,4 +1,5 @@
--- The bytes of a progress: the status of a refusal is its number, and all fields together. Assumes nothing.
+-- The bytes of a progress: the status of a refusal is its number, by each reason; and all fields together, one after the other.
+-- Assumes nothing.
 use Prim.Native.Nat.{ℕ, _+_, _*_, _<_}
 use mathlib.Core.Path.{_≡_, refl}
 use mathlib.Core.List.{List}

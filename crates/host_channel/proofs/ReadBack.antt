@@ -1,5 +1,5 @@
--- A progress that a call leaves is a progress, and the next call reads it as it was left: so calls of one step, one after another, make the steps
--- of the request. Each field is found where it was written, since the fields lie apart. Assumes nothing.
+-- A progress that a call leaves is a progress, and the next call reads it as it was left: so each call of one step does the next step of the
+-- request. Each field is found where it was written, since the fields lie apart. Assumes nothing.
 use Prim.Native.Nat.{ℕ, _+_, _*_, _/_, _%_, _^_, _<_, _≤_}
 use mathlib.Core.Path.{_≡_, refl, sym, ap, _∙_}
 use mathlib.Core.Bool.{true, false}

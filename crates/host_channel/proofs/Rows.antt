@@ -1,5 +1,5 @@
--- Rows of calls, computed: the result, the keys, the room and the bytes of the progress that each leaves, for a whole request, for its two steps one
--- after the other, and for calls that are refused for their settings, lengths or progress. Assumes nothing.
+-- Rows of calls, computed: the result, the keys, the room and the bytes of the progress that each leaves, for a whole request, for each of its
+-- two steps, and for calls that are refused for their settings, lengths or progress. Assumes nothing.
 use Prim.Native.Nat.{ℕ, _/_, _%_}
 use mathlib.Core.Path.{_≡_, refl}
 use mathlib.Core.Bool.{true, false}

@@ -102,7 +102,7 @@ fn standing_of(status: u32) -> Standing
     }
 }
 
-// The bytes are a progress. Their number is tested first, so that the compiler knows it at each of them (docs/BENCHMARK.md).
+// The bytes are a progress. Their number is tested first, so that the compiler knows that each of them is there.
 pub fn progress_valid(bytes: &[u8]) -> bool
     ensures { λ r. ⌜ r ≡ progressValid (now (bytes .entry)) ⌝ }
 {

@@ -185,14 +185,17 @@ rows =
     ∷ (in2K readWrite K 15 4096 1 device 0, seen 71 0 4096 First 0 0 K [] Z)
     ∷ (in2K readWrite K 15 0xFFFFFFF8 1 device 0, seen 71 0 0xFFFFFFF8 First 0 0 K [] Z)
     ∷ (in2K [] K 0 4088 1 [] 0, seen 71 1 4088 First 0 0 (0 ∷ 4 ∷ []) [] Z)
-    -- 72 for the reading: the CCW's unit is fetch-protected under another key; without fetch protection it is read
+    -- 72 for the reading: the CCW's unit is fetch-protected under another key; without fetch protection it is read. It comes after 71 for the address
+    -- and before what the CCW is
+    ∷ (in2K readWrite (0x39 ∷ 0 ∷ []) 5 4 1 device 4, seen 71 0 4 First 0 0 (0x39 ∷ 0 ∷ []) (7 ∷ 7 ∷ 7 ∷ 7 ∷ []) Z)
+    ∷ (single (ccw 3 0 7 0xFE 0 0 4) (0x39 ∷ 0 ∷ []) 5 device 4, seen 72 0 0 First 0 0 (0x39 ∷ 0 ∷ []) (7 ∷ 7 ∷ 7 ∷ 7 ∷ []) Z)
     ∷ (single readWrite (0x39 ∷ 0 ∷ []) 5 device 4, seen 72 0 0 First 0 0 (0x39 ∷ 0 ∷ []) (7 ∷ 7 ∷ 7 ∷ 7 ∷ []) Z)
     ∷ (single readWrite (0x31 ∷ 0 ∷ []) 5 device 4, seen 72 1 0 First 0 0 (0x34 ∷ 0 ∷ []) (7 ∷ 7 ∷ 7 ∷ 7 ∷ []) Z)
     -- 72 for the transfer: the second unit alone forbids; a write is a fetch
     ∷ (single readWrite (0x51 ∷ 0x31 ∷ []) 5 device 4, seen 72 1 0 First 0 0 (0x54 ∷ 0x31 ∷ []) (7 ∷ 7 ∷ 7 ∷ 7 ∷ []) Z)
     ∷ (single (ccw 5 0 7 0xFE 0 0 4) (0x51 ∷ 0x31 ∷ []) 5 [] 4, seen 0 1 8 Ended 0 4 (0x54 ∷ 0x34 ∷ []) Z Z)
     ∷ (single (ccw 5 0 7 0xFE 0 0 4) (0x51 ∷ 0x3B ∷ []) 5 [] 4, seen 72 1 0 First 0 0 (0x54 ∷ 0x3B ∷ []) (7 ∷ 7 ∷ 7 ∷ 7 ∷ []) Z)
-    -- 71: a bad command, bad flags, a zero count; each comes before what the data would be refused for
+    -- 71: a bad command, bad flags, a zero count; bad flags come before 73
     ∷ (single (ccw 3 0 7 0xFE 0 0 4) K 0 device 4, seen 71 1 0 First 0 0 F (7 ∷ 7 ∷ 7 ∷ 7 ∷ []) Z)
     ∷ (single (ccw 2 0 7 0xFE 0x80 0 9) K 0 device 4, seen 71 1 0 First 0 0 F (7 ∷ 7 ∷ 7 ∷ 7 ∷ []) Z)
     ∷ (single (ccw 2 0 7 0xFE 0xC0 0 4) K 0 device 4, seen 71 1 0 First 0 0 F (7 ∷ 7 ∷ 7 ∷ 7 ∷ []) Z)

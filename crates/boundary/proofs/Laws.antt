@@ -1,4 +1,4 @@
--- An answer is read back from its packed number; an operation number past the last is refused. Assumes nothing.
+-- An answer is read back from its packed number; an operation number past the last is refused. By arithmetic. Assumes nothing.
 use Prim.Native.Nat.{ℕ, _/_, _%_, _<_, _≤_}
 use mathlib.Core.Path.{_≡_, sym}
 use mathlib.Core.Logic.{_≢_}

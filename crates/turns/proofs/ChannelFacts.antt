@@ -1,6 +1,7 @@
--- Facts about the channel's list beside the processors', on every storage of 65,536 bytes that holds the CCW. A channel that reads into a unit of its
--- own: apart, and all orders agree. One that reads where a processor stores: the order matters, so the lists are not apart. Fetches of both
--- processors and a program that gives data to the device, all at any addresses: apart, and all orders agree. The steps are computed.
+-- Facts about the channel's list beside the processors'. On every storage of 65,536 bytes that holds the CCW: a channel that reads into a unit of
+-- its own is apart, and all orders agree; where one reads what a processor stores, the order matters, so the lists are not apart. From any
+-- start: fetches of both processors and a program that gives data to the device, all at any addresses, are apart, and all orders agree. A turn of
+-- the channel is one CCW. The steps are computed.
 -- Assumes nothing.
 use Prim.Native.Nat.{ℕ, _+_, _<_}
 use mathlib.Core.Path.{_≡_, refl, sym, ap, _∙_}

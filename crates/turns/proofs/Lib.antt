@@ -10,7 +10,7 @@ pub mod Fetches
 pub mod Parts
 pub mod Dependence
 pub mod Steps
--- Bytes under the channel's key do
+-- An access to bytes under the channel's key obeys them
 pub mod Reaches
 -- A turn is a sequence of such actions
 pub mod ChannelSteps

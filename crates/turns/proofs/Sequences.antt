@@ -1,5 +1,5 @@
--- A step that is several actions, one after another: which comes next depends on what the others gave back. As a step of the channel, which
--- fetches a CCW and then does what it says. A sequence of actions that obey the laws of actions obeys them as one action. It treats a part in
+-- A step that is several actions, one after another: which comes next depends on what the others gave back. A step of the channel is one: it
+-- fetches a CCW and then does what that says. A sequence of actions that obey the laws of actions obeys them as one action. It treats a part in
 -- the modes of its actions taken together: a part that is only fetched by them is fetched, and completed where one of them is. Assumes nothing.
 use mathlib.Core.Path.{_≡_, refl, sym, ap, _∙_}
 use mathlib.Core.Bool.{Bool, true, false, cond, _||_}

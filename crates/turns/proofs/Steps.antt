@@ -1,4 +1,4 @@
--- The step obeys the laws of actions. What it leaves of each part follows from the laws of a single request. In two states that are alike to it
+-- A processor's request obeys the laws of actions. What it leaves of each part follows from the laws of a single request. In two states that are alike to it
 -- a request finds the same record and the same verdict of the lines before protection, so it names the same units, and one verdict; where that
 -- is clear, what it leaves and gives back is the same. Assumes nothing.
 use Prim.Native.Nat.{ℕ}

@@ -445,8 +445,9 @@ uint32_t storage_unit_play(uint32_t settings,
  *                fetched, also where it is refused.
  *
  * Returns the answer in one value, for storage_unit_number to take apart. The caller must see to
- * what is said at storage_unit_request, for these ranges of bytes, and to a stack with 48 KB left:
- * the call takes under 400 bytes of it for each transfer in channel. A step takes under 1 KB.
+ * what is said at storage_unit_request, for these ranges of bytes, and to a stack with 56 KB left;
+ * the call takes under 400 bytes of it for each transfer in channel, of which there are at most
+ * 128. A step takes under 1 KB.
  *
  * storage_unit_channel_step: one step of a program, which is one CCW, with the same operands at
  * each. Give it a progress of zeros at first and then as the step before left it. Between two steps

@@ -249,7 +249,8 @@ pub type RawPlay = unsafe extern "C" fn(
 ///
 /// # Safety
 ///
-/// As for [`RawRequest`]; the bytes from the device are only read.
+/// As for [`RawRequest`]; the bytes from the device are only read. A whole request needs the stack
+/// that [`Machine::channel`](crate::Machine::channel) names.
 pub type RawChannel = unsafe extern "C" fn(
     settings: u32,
     storage: *mut u8,

@@ -235,8 +235,8 @@ impl<B: AsMut<[u8]>, P: BorrowMut<[Processor; 2]>> Machine<B, P> {
     /// the other from the first on, and those that write fill `room` from its first byte on; what
     /// is not filled is kept.
     ///
-    /// It takes under 400 bytes of the stack for each transfer in channel, up to 48 KB; a step takes
-    /// little.
+    /// It needs a stack with 56 KB left; it takes under 400 bytes of it for each transfer in channel,
+    /// of which there are at most 128. A step takes under 1 KB.
     ///
     /// The records of the processors are neither used nor changed: no prefix, no low-address
     /// protection. Each CCW is fetched when its turn has come, so that it is what a CCW before it

@@ -874,26 +874,67 @@ for_each_channel! {
     answered_and_wrong_lengths
 }
 
-/// The program with the most transfers in channel, in a thread whose stack is little more than the
-/// 48 KB that the header asks for. In a shorter one the process would end here.
+/// For a whole program: what the header asks for.
+const STACK: usize = 56 * 1024;
+
+/// For a step, of which the header says that it takes under 1 KB: the least that a thread can have,
+/// some KB more than this number, and less than the 64 KB of the data.
+const LEAST_STACK: usize = 16 * 1024;
+
+/// Calls the proved channel in a thread with a stack of this length. If the call took more of it,
+/// the process would end there.
+fn in_a_thread(stack: usize, function: Function, mut lent: Lent) -> Reached {
+    let call = move || {
+        let mut progress = [0; 32];
+        let progress = &mut progress;
+        let packed = ByFunctions::<Proved>::call(function, &mut lent, request(), progress);
+        reached(packed, progress)
+    };
+    let thread = thread::Builder::new().stack_size(stack).spawn(call);
+    thread.expect("a thread").join().expect("an answer")
+}
+
+/// The usual state with these CCWs, 64K more of storage, and buffers for the greatest count.
+fn with_most_data(ccws: &[[u8; 8]]) -> Lent {
+    let mut lent = with(ccws);
+    lent.storage.resize(131_072, 0);
+    lent.keys.resize(64, 0x31);
+    lent.from.resize(65_535, 0x77);
+    lent.room.resize(66_000, 0x77);
+    lent
+}
+
+/// A program with 128 transfers in channel, the most; and one with 127 before data of the greatest
+/// count.
 #[test]
 fn stack_of_a_whole_program() {
-    let thread = thread::Builder::new().stack_size((48 + 8) * 1024);
-    let run = || {
-        let mut lent = with(&[ccw(WRITE, 0, CHAIN, 1), ccw(TRANSFER, FIRST, 0, 0)]);
-        lent.room.resize(300, 0xCC);
-        let mut progress = [0; 32];
-        let packed = <ByFunctions<Proved> as Channel>::call(
-            Function::Whole,
-            &mut lent,
-            request(),
-            &mut progress,
-        );
-        reached(packed, &progress)
-    };
-    let end = thread.spawn(run).expect("a thread").join();
-    let end = end.expect("an answer");
+    let mut lent = with(&[ccw(WRITE, 0, CHAIN, 1), ccw(TRANSFER, FIRST, 0, 0)]);
+    lent.room.resize(300, 0xCC);
+    let end = in_a_thread(STACK, Function::Whole, lent);
     assert_eq!((end.number, end.fetched, end.given), (74, 256, 128));
+
+    for (command, bytes) in [(READ, (65_535, 127)), (WRITE, (0, 65_662))] {
+        let mut ccws = Vec::new();
+        for number in 1..=127 {
+            ccws.push(ccw(WRITE, 0, CHAIN, 1));
+            ccws.push(ccw(TRANSFER, FIRST + 16 * number, 0, 0));
+        }
+        ccws.push(ccw(command, 65_536, 0, 65_535));
+        let end = in_a_thread(STACK, Function::Whole, with_most_data(&ccws));
+        assert_eq!((end.number, end.fetched), (0, 255));
+        assert_eq!((end.taken, end.given), bytes);
+    }
+}
+
+/// A step with data of the greatest count.
+#[test]
+fn stack_of_a_step() {
+    for (command, bytes) in [(READ, (65_535, 0)), (WRITE, (0, 65_535))] {
+        let lent = with_most_data(&[ccw(command, 65_536, 0, 65_535)]);
+        let end = in_a_thread(LEAST_STACK, Function::Step, lent);
+        assert_eq!((end.number, end.fetched), (0, 1));
+        assert_eq!((end.taken, end.given), bytes);
+    }
 }
 
 /// The bytes of a CCW and its parts.

@@ -1013,7 +1013,7 @@ static uint64_t step_of(const struct storage_unit_machine *machine,
                                      progress, progress_length);
 }
 
-/* A call with this progress answers with this number, and changes nothing, the progress neither. */
+/* A call with this progress answers with this number, and changes nothing, not even the progress. */
 static void changes_nothing(channel_function *function, const struct storage_unit_machine *machine,
                             const uint8_t *bytes, size_t length, uint32_t expected)
 {
@@ -1145,6 +1145,36 @@ static void channel_null(void)
     memset(&program, 0, sizeof program);
     CHECK(channel_number(whole_of(&machine, &program, NULL, 0)) == STORAGE_UNIT_NUMBER_CONFIGURATION);
     CHECK(channel_number(step_of(&machine, &program, NULL, 0)) == STORAGE_UNIT_NUMBER_CONFIGURATION);
+}
+
+/* A progress of each alignment, with other bytes around it. */
+static void channel_alignment(void)
+{
+    const size_t length = STORAGE_UNIT_PROGRESS_LENGTH;
+    struct storage_unit_machine machine = machine_of_tests();
+    struct storage_unit_program program = program_of_tests();
+    uint8_t bytes[STORAGE_UNIT_PROGRESS_LENGTH + 8], left[STORAGE_UNIT_PROGRESS_LENGTH];
+    size_t at, place;
+
+    channel_start();
+    ccw(0, STORAGE_UNIT_CCW_READ, 0, STORAGE_UNIT_CCW_CHAIN_COMMAND, 2);
+    ccw(1, STORAGE_UNIT_CCW_WRITE, 0, 0, 2);
+    CHECK(channel_number(whole_of(&machine, &program, left, length)) == STORAGE_UNIT_NUMBER_COMPLETED);
+    for (at = 0; at <= 8; at++) {
+        memset(bytes, 0x77, sizeof bytes);
+        CHECK(channel_number(whole_of(&machine, &program, bytes + at, length))
+              == STORAGE_UNIT_NUMBER_COMPLETED);
+        CHECK(memcmp(bytes + at, left, length) == 0);
+        memset(bytes + at, 0, length);
+        CHECK(channel_number(step_of(&machine, &program, bytes + at, length))
+              == STORAGE_UNIT_NUMBER_UNDER_WAY);
+        CHECK(channel_number(step_of(&machine, &program, bytes + at, length))
+              == STORAGE_UNIT_NUMBER_COMPLETED);
+        CHECK(memcmp(bytes + at, left, length) == 0);
+        for (place = 0; place < sizeof bytes; place++) {
+            CHECK((place >= at && place < at + length) || bytes[place] == 0x77);
+        }
+    }
 }
 
 /* A processor stores the CCW to come between two steps; and a read of the program does it. */
@@ -1523,6 +1553,7 @@ int main(void)
     channel_wrong_progress();
     channel_made_up();
     channel_null();
+    channel_alignment();
     channel_between_steps();
     random_requests();
     return failures == 0 ? 0 : 1;

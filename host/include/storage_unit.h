@@ -227,11 +227,12 @@ struct storage_unit_player {
  * data that goes to the device are recorded as a fetch is, data read from it as a store is.
  *
  * The answer of a program is STORAGE_UNIT_NUMBER_COMPLETED where it ended well, else
- * STORAGE_UNIT_NUMBER_CONFIGURATION or one of these numbers; its place, word and rule are 0. Tested
- * are 64, 65 and 66, and then for each CCW, in this order: 74; 71 for its address; 72 for its
- * fetching; 71 for what it is; 71 for the range of its data; 73; 72 for its data. A CCW that is
- * refused moves nothing and changes no key but that of its own unit, if it was fetched; what the
- * CCWs before it did stands.
+ * STORAGE_UNIT_NUMBER_CONFIGURATION or one of the numbers 65, 66 and 71 to 74 below; its place,
+ * word and rule are 0. 65 and 66 are not what they are for a request: storage_unit_channel_message
+ * has the texts. Tested are 64, 65 and 66, and then for each CCW, in this order: 74; 71 for its
+ * address; 72 for its fetching; 71 for what it is; 71 for the range of its data; 73; 72 for its
+ * data. A CCW that is refused moves nothing and changes no key but that of its own unit, if it was
+ * fetched; what the CCWs before it did stands.
  */
 
 #define STORAGE_UNIT_NUMBER_CHANNEL_KEY 65u  /* the channel's key is over 15; a wrong progress */
@@ -253,9 +254,12 @@ struct storage_unit_player {
 #define STORAGE_UNIT_GRANT_MAXIMUM       256u
 
 /*
- * How far a program has come. Zeros, or any with the status 0, begin one. Where a CCW was refused,
- * address, chaining, taken and given are as they were before it, and fetched counts it if it was
- * fetched. On x86-64 the struct is the 32 bytes that the functions take.
+ * How far a program has come. Zeros begin one, and so does any progress with the status 0, whatever
+ * its address, chaining, fetched, taken and given are. In every progress the chaining is at most 3,
+ * the status is 0, 1, 2 or the number of a refusal, 64 to 66 or 71 to 74, and the bytes of zeros
+ * and more_zeros are zero. Where a CCW was refused, address, chaining, taken and given are as they
+ * were before it, and fetched counts it if it was fetched. On x86-64 the struct is the 32 bytes
+ * that the functions take.
  */
 struct storage_unit_progress {
     uint32_t address;    /* of the CCW to come; after the last, that behind it */
@@ -432,9 +436,9 @@ uint32_t storage_unit_play(uint32_t settings,
  * storage_unit_channel: a whole channel program.
  *
  * settings       As for storage_unit_request. Another bit: 64, before all else, and nothing
- *                changes, the progress neither.
+ *                changes, not even the progress.
  * storage, keys  As for storage_unit_request. A wrong length: 64.
- * key            The channel's key, 0 to 15. A greater number: 65.
+ * key            The channel's key, 0 to 15; 8 matches a key byte of hex 80. A greater number: 65.
  * first          The address of the first CCW. Any number: a wrong one is 71.
  * grant          How many CCWs may be fetched, 1 to 256. Another number: 66.
  * from           The bytes from the device, as many as there are. They are only read.
@@ -444,20 +448,29 @@ uint32_t storage_unit_play(uint32_t settings,
  *                start; at its end the call leaves there how far it came, with the number of CCWs
  *                fetched, also where it is refused.
  *
- * Returns the answer in one value, for storage_unit_number to take apart. The caller must see to
- * what is said at storage_unit_request, for these ranges of bytes, and to a stack with 56 KB left;
- * the call takes under 400 bytes of it for each transfer in channel, of which there are at most
- * 128. A step takes under 1 KB.
+ * Returns the answer in one value, for storage_unit_number to take apart. What the caller must see
+ * to is as for storage_unit_request: storage, keys, from, room and progress do not overlap; the
+ * progress may have any alignment; calls for processors and channels of one storage take turns. And
+ * the caller must see to a stack with 56 KB left; the call takes under 400 bytes of it for each
+ * transfer in channel, of which there are at most 128. A step takes under 1 KB.
  *
- * storage_unit_channel_step: one step of a program, which is one CCW, with the same operands at
- * each. Give it a progress of zeros at first and then as the step before left it. Between two steps
- * processors may make requests. While the program is under way, the number is
- * STORAGE_UNIT_NUMBER_UNDER_WAY. 64, 65 and 66 are tested at each step; one of them at a later
- * step, where other lengths or operands were given, is the answer too. A step of a program that has
- * its answer changes nothing and gives the answer again. A program takes a step for each CCW that
- * it fetches, and one more where the last step fetches none. Bytes that are no progress (another
- * length, a chaining over 3, another status, a byte of the zeros that is not zero): 65, or 64 where
- * that applies, and nothing changes.
+ * storage_unit_channel_step: one step of a program, which is one CCW. Give it a progress of zeros
+ * at first and then as the step before left it. While the program is under way, the number is
+ * STORAGE_UNIT_NUMBER_UNDER_WAY. A program takes a step for each CCW that it fetches, and one more
+ * where the last step fetches none.
+ *
+ * Between two steps the host may do anything: make requests of processors, do steps of another
+ * program with a progress of its own, change storage and keys. A later step may have longer
+ * buffers, or buffers elsewhere: taken and given count from their first bytes. Lengths, key and
+ * grant are tested at each step of a program under way, and a step with others than the first can
+ * be refused with 64, 65 or 66, which ends the program; first is used by the first step alone. A
+ * step of a program that has its answer changes nothing and gives the answer again, whatever the
+ * lengths and operands are.
+ *
+ * Two things are tested before all this, at any step. Settings with another bit on: 64. Bytes that
+ * are no progress (another length, a chaining over 3, another status, a byte of the zeros that is
+ * not zero): 65, or 64 where the length of storage or keys is wrong. Then nothing changes, not even
+ * the progress.
  */
 uint64_t storage_unit_channel(uint32_t settings,
                               uint8_t *storage, size_t storage_length,
@@ -850,7 +863,10 @@ struct storage_unit_program {
     size_t room_length;
 };
 
-/* Runs a channel program on the machine, as storage_unit_channel does. */
+/*
+ * Runs a channel program on the machine, as storage_unit_channel does. Machine, program and
+ * progress are not null.
+ */
 static inline uint64_t storage_unit_run_program(const struct storage_unit_machine *machine,
                                                 const struct storage_unit_program *program,
                                                 struct storage_unit_progress *progress)
@@ -864,7 +880,10 @@ static inline uint64_t storage_unit_run_program(const struct storage_unit_machin
                                 (uint8_t *)progress, sizeof *progress);
 }
 
-/* Does one CCW of a channel program on the machine, as storage_unit_channel_step does. */
+/*
+ * Does one CCW of a channel program on the machine, as storage_unit_channel_step does. Machine,
+ * program and progress are not null.
+ */
 static inline uint64_t storage_unit_step_program(const struct storage_unit_machine *machine,
                                                  const struct storage_unit_program *program,
                                                  struct storage_unit_progress *progress)

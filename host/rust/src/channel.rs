@@ -279,10 +279,17 @@ impl<B: AsMut<[u8]>, P: BorrowMut<[Processor; 2]>> Machine<B, P> {
     }
 
     /// Does one step of a program of a channel: one CCW. The first step of a request has a
-    /// progress that is the default, and tests key and grant before the first CCW; each further
-    /// one is given the same request, `from` and `room`, and the progress that the one before it
-    /// left. Gives the answer, or `None` while the request is under way. Other requests may come
-    /// between the steps.
+    /// progress that is the default, or any with the status [`ChannelStatus::NotBegun`]; each
+    /// further one has the progress that the one before it left. Gives the answer, or `None` while
+    /// the request is under way.
+    ///
+    /// Between two steps the host may do anything: make requests of processors, do steps of another
+    /// program with a progress of its own, change storage and keys. A later step may have longer
+    /// buffers, or buffers elsewhere: `taken` and `given` count from their first bytes. Lengths, key
+    /// and grant are tested at each step of a request under way, and a step with others than the
+    /// first can be refused by them, which ends the request; `first` is used by the first step
+    /// alone. A step of a request that has its answer changes nothing and gives the answer again,
+    /// whatever the lengths and the request are.
     ///
     /// ```
     /// use storage_unit::{ChannelProgress, ChannelRequest, ChannelStatus};

@@ -685,7 +685,7 @@ fn wrong_progress<C: Channel>() {
 }
 
 /// Settings with another bit on: 64 before all else, whatever the progress is, and nothing changes,
-/// the progress neither.
+/// not even the progress.
 fn wrong_settings<C: Channel>() {
     let good = with(&[ccw(WRITE, 0, 0, 1)]);
     let asked = Request {
@@ -791,6 +791,81 @@ fn changed_between_steps<C: Channel>() {
     }
 }
 
+/// A later step with buffers elsewhere, which are longer, and with another first address: positions
+/// count from the first bytes of the buffers that it is given. With shorter ones it is refused.
+fn other_buffers_between_steps<C: Channel>() {
+    let mut lent = with(&[
+        ccw(READ, 8192, CHAIN, 10),
+        ccw(WRITE, 8192, CHAIN, 10),
+        ccw(READ, 10_240, CHAIN, 20),
+        ccw(WRITE, 10_240, 0, 20),
+    ]);
+    let mut progress = [0; 32];
+    let mut asked = request();
+    for fetched in 1..=2 {
+        let packed = C::call(Function::Step, &mut lent, asked, &mut progress);
+        assert_eq!(reached(packed, &progress).fetched, fetched);
+    }
+    let now = reached(255 << 48, &progress);
+    assert_eq!((now.number, now.taken, now.given), (255, 10, 10));
+
+    // Too short for 20 more, or shorter than the bytes that were taken or given.
+    for length in [29, 9, 0] {
+        for (command, from, room) in [(READ, length, 30), (WRITE, 30, length)] {
+            let mut short = lent.clone();
+            put(&mut short, FIRST + 16, &[ccw(command, 10_240, 0, 20)]);
+            short.from.resize(from, 0x77);
+            short.room.resize(room, 0x77);
+            let mut progress = progress;
+            let packed = C::call(Function::Step, &mut short, asked, &mut progress);
+            let refused = Reached {
+                number: 73,
+                fetched: 3,
+                ..now
+            };
+            assert_eq!(reached(packed, &progress), refused, "{length}");
+        }
+    }
+
+    lent.from = (0..30).collect();
+    lent.room = vec![0xDD; 40];
+    asked.first = 0;
+    let packed = C::call(Function::Step, &mut lent, asked, &mut progress);
+    assert_eq!((packed, reached(packed, &progress).taken), (255 << 48, 30));
+    assert_eq!(lent.storage[10_240..10_260], lent.from[10..]);
+    let packed = C::call(Function::Step, &mut lent, asked, &mut progress);
+    assert_eq!((packed, reached(packed, &progress).given), (0, 30));
+    assert_eq!(lent.room[..10], [0xDD; 10]);
+    assert_eq!(lent.room[10..30], lent.from[10..]);
+    assert_eq!(lent.room[30..], [0xDD; 10]);
+}
+
+/// Two programs in one storage step by step in turn, each with its own progress and its own device.
+fn two_programs<C: Channel>() {
+    let second = FIRST + 64;
+    let mut lent = usual();
+    for (first, data) in [(FIRST, 8192), (second, 20_000)] {
+        let ccws = [ccw(READ, data, CHAIN, 4), ccw(WRITE, data, 0, 4)];
+        put(&mut lent, first, &ccws);
+    }
+    let requests = [FIRST, second].map(|first| Request { first, ..request() });
+    let mut devices = [[1, 2, 3, 4], [5, 6, 7, 8]].map(|from| (from.to_vec(), vec![0; 4]));
+    let mut progress = [[0; 32]; 2];
+    for number in [255, 0] {
+        for program in 0..2 {
+            let (from, room) = devices[program].clone();
+            (lent.from, lent.room) = (from, room);
+            let asked = requests[program];
+            let packed = C::call(Function::Step, &mut lent, asked, &mut progress[program]);
+            assert_eq!(packed, number << 48);
+            devices[program].1.clone_from(&lent.room);
+        }
+    }
+    assert_eq!(lent.storage[8192..8196], [1, 2, 3, 4]);
+    assert_eq!(lent.storage[20_000..20_004], [5, 6, 7, 8]);
+    assert!(devices.iter().all(|(from, room)| from == room));
+}
+
 /// Ours: a host makes up the progress of a request that is under way with the chaining of one that
 /// has ended. A transfer in channel is allowed behind a CCW that chains and nowhere else; data are
 /// no matter.
@@ -870,6 +945,8 @@ for_each_channel! {
     wrong_settings
     answered
     changed_between_steps
+    other_buffers_between_steps
+    two_programs
     made_up_chaining
     answered_and_wrong_lengths
 }

@@ -87,7 +87,7 @@ macro_rules! events {
 
 events! {
     SettingsOther: "64 by another bit of the settings",
-    LengthsBeforeKeyAndGrant: "64 where key and grant are wrong too",
+    LengthsBeforeKeyOrGrant: "64 where the key or the grant is wrong too",
     KeyBeforeGrant: "65 where the grant is wrong too",
     KeyWithLowBits: "65, the low four bits a key that would do",
     GrantZero: "66, grant 0",
@@ -429,7 +429,7 @@ fn count_step(
         Line::Lengths => {
             met(Event::SettingsOther, lengths.settings > 3);
             let grant_wrong = grant == 0 || grant > 256;
-            met(Event::LengthsBeforeKeyAndGrant, key > 15 || grant_wrong);
+            met(Event::LengthsBeforeKeyOrGrant, key > 15 || grant_wrong);
         }
         Line::Key => {
             met(Event::KeyBeforeGrant, grant == 0 || grant > 256);
@@ -907,25 +907,35 @@ fn random_progress(random: &mut Random, asked: &Asked, seen: &mut AnySteps) -> V
     bytes
 }
 
-/// One step from any progress, by an implementation and by the reference.
+/// Steps from any progress, with units of both lengths and several lengths of storage.
 fn random_steps<U: ChannelUnit>() {
-    let steps = 200_000;
     let pool = Pool::new(&mut Random::new(DEFAULT_SEED));
-    let mut seen = AnySteps::default();
     let random = &mut Random::new(from_environment("STORAGE_UNIT_SEED", DEFAULT_SEED));
-    let place = Place {
-        length: 8192,
-        key_unit: 2048,
-    };
+    for (length, key_unit) in [
+        (4096, 4096),
+        (8192, 2048),
+        (8192, 4096),
+        (65_536, 2048),
+        (73_728, 4096),
+    ] {
+        random_steps_in::<U>(random, &pool, Place { length, key_unit });
+    }
+}
+
+/// Each is one step from any progress, by an implementation and by the reference.
+fn random_steps_in<U: ChannelUnit>(random: &mut Random, pool: &Pool, place: Place) {
+    let steps = 40_000;
+    let mut seen = AnySteps::default();
     let right = Lengths {
-        settings: 2,
-        storage: 8192,
-        keys: 4,
+        settings: if place.key_unit == 4096 { 3 } else { 2 },
+        storage: place.length as usize,
+        keys: (place.length / place.key_unit) as usize,
     };
     let storage = random.bytes(right.storage + SPARE_STORAGE);
-    let mut sides = [(); 2].map(|()| Side::new(&storage, &[0; 4 + SPARE_KEYS]));
+    let keys = vec![0; right.keys + SPARE_KEYS];
+    let mut sides = [(); 2].map(|()| Side::new(&storage, &keys));
     for number in 0..steps {
-        let asked = random_asked(random, &pool, place);
+        let asked = random_asked(random, pool, place);
         let progress = random_progress(random, &asked, &mut seen);
         let known = channel::progress_from(&progress);
         let answered = known.is_some_and(|known| matches!(known.status, Status::Answered(_)));
@@ -970,7 +980,7 @@ fn random_steps<U: ChannelUnit>() {
         let transfer = expected.storage.get(at).is_some_and(|byte| byte & 15 == 8);
         seen.ended_under_way += u64::from(ended && transfer && given == packed(71));
     }
-    println!("{}: {seen:?}", U::NAME);
+    println!("{}, {right:?}: {seen:?}", U::NAME);
     let cases = [
         seen.malformed,
         seen.wrong_length,
@@ -982,9 +992,10 @@ fn random_steps<U: ChannelUnit>() {
         seen.settings_other,
     ];
     for count in seen.numbers.iter().chain(&cases) {
-        assert!(*count >= steps / 500, "{seen:?}");
+        assert!(*count >= steps / 500, "{right:?}: {seen:?}");
     }
-    assert!(seen.answered_and_lengths_wrong >= 100, "{seen:?}");
+    let answered_and_wrong = seen.answered_and_lengths_wrong;
+    assert!(answered_and_wrong >= steps / 2_000, "{right:?}: {seen:?}");
 }
 
 /// The methods of a machine against the C functions.

@@ -13,9 +13,11 @@ mod support;
 
 use std::collections::BTreeSet;
 
-use storage_unit::boundary::{PROGRESS_LENGTH, call_channel_raw, encode_settings};
+use storage_unit::boundary::{
+    CCW_LENGTH, PROGRESS_FETCHED_AT, PROGRESS_LENGTH, call_channel_raw, encode_settings,
+};
 use storage_unit::{AccessKind, Answer, Processor, Request, Settings};
-use storage_unit_comparison::channel::{self, Ccw};
+use storage_unit_comparison::channel::{self, Ccw, Line, Progress, Status};
 use storage_unit_comparison::reference::units_named;
 use storage_unit_comparison::units::{Plain, Proved, Reference};
 use storage_unit_comparison::{ChannelUnit, Unit};
@@ -91,10 +93,27 @@ struct Left {
 
 const UNDER_WAY: u64 = 255 << 48;
 
+impl Given {
+    fn under_way(&self) -> bool {
+        self.packed == UNDER_WAY
+    }
+
+    /// How many CCWs were fetched.
+    fn fetched(&self) -> u32 {
+        let bytes = &self.progress[PROGRESS_FETCHED_AT..][..4];
+        u32::from_le_bytes(bytes.try_into().expect("four bytes"))
+    }
+}
+
 /// A run that is under way.
 struct Run<'a> {
     lists: &'a Lists,
     left: Left,
+    /// A request of a processor was completed behind the last CCW of the channel's request that is
+    /// under way.
+    completed_behind: bool,
+    /// How many times that was so where a further CCW of the request was fetched.
+    between_ccws: u64,
 }
 
 impl Run<'_> {
@@ -104,18 +123,25 @@ impl Run<'_> {
             processors: [Vec::new(), Vec::new()],
             channel: Vec::new(),
         };
-        Run { lists, left }
+        Run {
+            lists,
+            left,
+            completed_behind: false,
+            between_ccws: 0,
+        }
     }
 
     /// Whether a list has turns left.
     fn has_turns(&self, list: usize) -> bool {
         if list == CHANNEL {
-            let begun = self.left.channel.last();
-            begun.is_some_and(|given| given.packed == UNDER_WAY)
-                || self.left.channel.len() < self.lists.channel.len()
+            self.channel_under_way() || self.left.channel.len() < self.lists.channel.len()
         } else {
             self.left.processors[list].len() < self.lists.processors[list].len()
         }
+    }
+
+    fn channel_under_way(&self) -> bool {
+        self.left.channel.last().is_some_and(Given::under_way)
     }
 
     /// A turn of a list that has one.
@@ -133,13 +159,14 @@ impl Run<'_> {
         let mut buffer = turn.buffer.clone();
         let (number, request) = (turn.processor, &turn.request);
         let answer = self.left.lent.request::<U>(number, request, &mut buffer);
+        let completed = answer.is_ok();
         done.push((answer, buffer));
+        self.completed_behind |= completed && self.channel_under_way();
     }
 
     /// Begins the next request of the channel if none is under way, and gives its number.
     fn begun(&mut self) -> usize {
-        let under_way = self.left.channel.last();
-        if under_way.is_none_or(|given| given.packed != UNDER_WAY) {
+        if !self.channel_under_way() {
             self.left.channel.push(Given {
                 packed: UNDER_WAY,
                 progress: [0; PROGRESS_LENGTH],
@@ -170,7 +197,12 @@ impl Run<'_> {
     }
 
     fn step<U: ChannelUnit>(&mut self) {
+        let number = self.begun();
+        let before = self.left.channel[number].fetched();
         self.call(U::STEP);
+        let fetched = self.left.channel[number].fetched() > before;
+        self.between_ccws += u64::from(self.completed_behind && fetched);
+        self.completed_behind = false;
     }
 
     /// The next request of the channel as a whole, by the reference.
@@ -219,11 +251,11 @@ fn one_after_another_by<U: Unit + ChannelUnit>(start: &Lent, lists: &Lists) -> L
 
 /// A random order, from turns in single alternation to long stretches of one list. Gives the order
 /// too.
-fn random_order<U: Unit + ChannelUnit>(
+fn random_order<'a, U: Unit + ChannelUnit>(
     random: &mut Random,
     start: &Lent,
-    lists: &Lists,
-) -> (Left, Vec<usize>) {
+    lists: &'a Lists,
+) -> (Run<'a>, Vec<usize>) {
     let mut run = Run::new(start, lists);
     let mut order = Vec::new();
     let stretch = random.pick(&[1, 2, 2, 4, 12]);
@@ -233,7 +265,7 @@ fn random_order<U: Unit + ChannelUnit>(
             list = random.below(3) as usize;
         }
         if (0..3).all(|list| !run.has_turns(list)) {
-            return (run.left, order);
+            return (run, order);
         }
         while !run.has_turns(list) {
             list = (list + 1) % 3;
@@ -244,7 +276,7 @@ fn random_order<U: Unit + ChannelUnit>(
 }
 
 /// The lists in this order of turns, each element a list that has one.
-fn in_order<U: Unit + ChannelUnit>(start: &Lent, lists: &Lists, order: &[usize]) -> Left {
+fn in_order<'a, U: Unit + ChannelUnit>(start: &Lent, lists: &'a Lists, order: &[usize]) -> Run<'a> {
     let mut run = Run::new(start, lists);
     for &list in order {
         assert!(run.has_turns(list), "a turn is left");
@@ -254,17 +286,16 @@ fn in_order<U: Unit + ChannelUnit>(start: &Lent, lists: &Lists, order: &[usize])
         (0..3).all(|list| !run.has_turns(list)),
         "the order has every turn"
     );
-    run.left
+    run
 }
 
 /// How many turns each list has, run alone from the start.
 fn turns_of(start: &Lent, lists: &Lists) -> [usize; 3] {
     let mut lent = start.clone();
-    let of_channel = lists.channel.iter().map(|program| {
-        let (_, _, steps) = names_of_program(&mut lent, program);
-        steps
-    });
-    let steps = of_channel.sum();
+    let of_channel = lists.channel.iter();
+    let steps = of_channel
+        .map(|program| program_alone(&mut lent, program).steps)
+        .sum();
     let [first, second] = &lists.processors;
     [first.len(), second.len(), steps]
 }
@@ -318,9 +349,20 @@ fn names_of_turn(lent: &mut Lent, turn: &Turn) -> Names {
     names
 }
 
-/// What a request of the channel names in this state, the number of its answer and how many steps
-/// it takes. The state goes on.
-fn names_of_program(lent: &mut Lent, program: &Program) -> (Names, u16, usize) {
+/// What a request of the channel does alone.
+#[derive(Default)]
+struct Alone {
+    names: Names,
+    /// That of the answer.
+    number: u16,
+    steps: usize,
+    transfers: usize,
+    /// The CCWs that were fetched, by their addresses.
+    fetched: Vec<(u32, Ccw)>,
+}
+
+/// Runs a request of the channel by the reference from this state. The state goes on.
+fn program_alone(lent: &mut Lent, program: &Program) -> Alone {
     let mut with = channel::Lent {
         settings: encode_settings(lent.settings),
         storage: &mut lent.storage,
@@ -328,13 +370,24 @@ fn names_of_program(lent: &mut Lent, program: &Program) -> (Names, u16, usize) {
         from: &program.from,
         room: &mut program.room.clone(),
     };
-    let (progress, steps) = channel::whole(&mut with, &program.request);
-    let mut names = Names::default();
-    for step in &steps {
-        names.fetches.extend(&step.fetches);
-        names.others.extend(&step.others);
+    let mut progress = Progress::NOT_BEGUN;
+    let mut alone = Alone::default();
+    loop {
+        let address = match progress.status {
+            Status::NotBegun => program.request.first,
+            _ => progress.record.address,
+        };
+        let Some(step) = channel::step(&mut with, &program.request, &mut progress) else {
+            break;
+        };
+        alone.steps += 1;
+        alone.transfers += usize::from(step.line == Line::Transferred);
+        alone.fetched.extend(step.ccw.map(|ccw| (address, ccw)));
+        alone.names.fetches.extend(step.fetches);
+        alone.names.others.extend(step.others);
     }
-    (names, channel::number_given(&progress), steps.len())
+    alone.number = channel::number_given(&progress);
+    alone
 }
 
 /// What each list names, run alone from the start.
@@ -348,7 +401,7 @@ fn names_of_lists(start: &Lent, lists: &Lists) -> [Names; 3] {
     }
     let mut lent = start.clone();
     for program in &lists.channel {
-        all[CHANNEL].extend(&names_of_program(&mut lent, program).0);
+        all[CHANNEL].extend(&program_alone(&mut lent, program).names);
     }
     all
 }
@@ -485,15 +538,18 @@ fn address_of(random: &mut Random, start: &Lent, owners: &[Owner], of: &[Owner])
 }
 
 /// Writes a program into storage, mostly in units that the channel may name, and gives the
-/// request. Its bytes are not in storage where it meets the end.
+/// request. A CCW is not in storage where the program meets the end, or where the CCW before it
+/// reads it from the device.
 fn write_program(random: &mut Random, start: &mut Lent, owners: &[Owner]) -> Option<Program> {
     let own = [Owner::List(CHANNEL)];
     let fetched = [Owner::List(CHANNEL), Owner::Fetches];
     let first = address_of(random, start, owners, &fetched)? / 8 * 8;
     let count = 1 + random.below(8);
-    let (mut taken, mut given) = (0, 0);
+    let (mut from, mut given) = (Vec::new(), 0);
     let mut at = first as usize;
     let mut after_transfer = true;
+    // Where this CCW is among the bytes from the device, if it is read.
+    let mut read_at = None;
     for number in 0..count {
         let read = random.one_in(2);
         let length = random.pick(&[1, 8, 16, 16, 100, 2000]);
@@ -509,7 +565,8 @@ fn write_program(random: &mut Random, start: &mut Lent, owners: &[Owner]) -> Opt
         };
         let transfer = !after_transfer && random.one_in(4);
         after_transfer = transfer;
-        let mut behind = at + 8;
+        let mut behind = at + CCW_LENGTH;
+        let mut next_read_at = None;
         if transfer {
             // Onwards, or back to the first.
             let next = address_of(random, start, owners, &fetched)? / 8 * 8;
@@ -520,15 +577,25 @@ fn write_program(random: &mut Random, start: &mut Lent, owners: &[Owner]) -> Opt
             ccw.command = random.byte();
             ccw.flags ^= random.pick(&[0, 1, 0x40]);
             ccw.count = random.pick(&[0, 16]);
+        } else if !last && random.one_in(8) {
+            ccw.command = 2;
+            ccw.address = behind as u32;
+            ccw.count = CCW_LENGTH as u16;
+            next_read_at = Some(from.len());
+            from.extend([0; CCW_LENGTH]);
         } else if read {
-            taken += usize::from(length);
+            from.extend(random.bytes(length.into()));
         } else {
             given += usize::from(length);
         }
-        if let Some(bytes) = start.storage.get_mut(at..at + 8) {
+        let place = match read_at {
+            Some(place) => from.get_mut(place..place + CCW_LENGTH),
+            None => start.storage.get_mut(at..at + CCW_LENGTH),
+        };
+        if let Some(bytes) = place {
             bytes.copy_from_slice(&ccw.to_bytes());
         }
-        at = behind;
+        (at, read_at) = (behind, next_read_at);
     }
     let slack = random.pick(&[0, 0, 40, 4000]);
     let short = random.pick(&[0, 0, 0, 0, 0, 1]);
@@ -541,9 +608,11 @@ fn write_program(random: &mut Random, start: &mut Lent, owners: &[Owner]) -> Opt
         first: if random.one_in(20) { first + 4 } else { first },
         grant: random.pick(&[256, 256, 256, 256, 20, 20, 8, 4, 2, 1, 0]),
     };
+    from.extend(random.bytes(slack));
+    from.truncate(from.len().saturating_sub(short));
     Some(Program {
         request,
-        from: random.bytes((taken + slack).saturating_sub(short)),
+        from,
         room: random.bytes((given + slack).saturating_sub(short)),
     })
 }
@@ -562,13 +631,26 @@ struct Seen {
     shared_units: u64,
     shared_with_channel: u64,
     all_three_busy: u64,
+    /// Orders in which a request of a processor was completed between two CCWs of one request.
+    orders_between_ccws: u64,
+    /// Requests of the channel with a transfer in channel that was made.
+    transfers: u64,
+    /// Requests of the channel with a CCW that a read of the channel had changed.
+    overwritten: u64,
+    /// Those of them that ended well.
+    overwritten_and_ended: u64,
     numbers: [u64; NUMBERS.len()],
 }
 
 const NUMBERS: [u16; 8] = [0, 64, 65, 66, 71, 72, 73, 74];
 
 impl Seen {
-    fn note(&mut self, lists: &Lists, left: &Left, names: &[Names; 3]) {
+    fn note_order(&mut self, run: &Run) {
+        self.orders += 1;
+        self.orders_between_ccws += u64::from(run.between_ccws > 0);
+    }
+
+    fn note(&mut self, start: &Lent, lists: &Lists, left: &Left, names: &[Names; 3]) {
         self.triples += 1;
         let turns: usize = lists.processors.iter().map(Vec::len).sum();
         self.processor_requests += turns as u64;
@@ -586,8 +668,18 @@ impl Seen {
             let number = (given.packed >> 48) as u16;
             let column = NUMBERS.iter().position(|each| *each == number);
             self.numbers[column.expect("a number of the channel")] += 1;
-            let fetched = u16::from_le_bytes([given.progress[8], given.progress[9]]);
-            self.channel_steps += u64::from(fetched);
+            self.channel_steps += u64::from(given.fetched());
+        }
+        let mut lent = start.clone();
+        for program in &lists.channel {
+            let alone = program_alone(&mut lent, program);
+            self.transfers += u64::from(alone.transfers > 0);
+            // Alone, nothing but reads of the channel changes storage.
+            let overwritten = alone.fetched.iter().any(|(address, ccw)| {
+                start.storage[*address as usize..][..CCW_LENGTH] != ccw.to_bytes()
+            });
+            self.overwritten += u64::from(overwritten);
+            self.overwritten_and_ended += u64::from(overwritten && alone.number == 0);
         }
     }
 
@@ -601,6 +693,10 @@ impl Seen {
             ("shared units", self.shared_units, 1_000),
             ("shared with the channel", self.shared_with_channel, 800),
             ("all three name units", self.all_three_busy, 1_200),
+            ("between two CCWs", self.orders_between_ccws, 20_000),
+            ("transfers in channel", self.transfers, 1_500),
+            ("CCWs overwritten", self.overwritten, 800),
+            ("overwritten, ended", self.overwritten_and_ended, 300),
         ] {
             assert!(count >= minimum, "{what}: {count}, fewer than {minimum}");
         }
@@ -637,8 +733,7 @@ fn random_lists(random: &mut Random, restricted: bool) -> (Lent, Lists) {
     let mut lent = start.clone();
     for program in programs {
         let mut next = lent.clone();
-        let (names, ..) = names_of_program(&mut next, &program);
-        if takes(CHANNEL)(&names) {
+        if takes(CHANNEL)(&program_alone(&mut next, &program).names) {
             lent = next;
             lists.channel.push(program);
         }
@@ -678,20 +773,21 @@ fn orders_agree<U: Unit + ChannelUnit>() {
         let turns = turns_of(&start, &lists);
         if turns.iter().sum::<usize>() <= FEW_TURNS {
             for order in all_orders(turns) {
-                let different = difference(&expected, &in_order::<U>(&start, &lists, &order));
+                let run = in_order::<U>(&start, &lists, &order);
+                let different = difference(&expected, &run.left);
                 assert_eq!(different, None, "seed {seed}, order {order:?}");
-                seen.orders += 1;
+                seen.note_order(&run);
             }
             seen.all_orders += u64::from(turns.iter().all(|turns| *turns > 0));
         } else {
             for _ in 0..ORDERS {
-                let (left, order) = random_order::<U>(random, &start, &lists);
-                let different = difference(&expected, &left);
+                let (run, order) = random_order::<U>(random, &start, &lists);
+                let different = difference(&expected, &run.left);
                 assert_eq!(different, None, "seed {seed}, order {order:?}");
-                seen.orders += 1;
+                seen.note_order(&run);
             }
         }
-        seen.note(&lists, &expected, &names);
+        seen.note(&start, &lists, &expected, &names);
     }
     println!("{}, first seed {first_seed}: {seen:?}", <U as Unit>::NAME);
     seen.check();
@@ -713,8 +809,8 @@ fn orders_differ<U: Unit + ChannelUnit>() {
         }
         not_apart += 1;
         let found = (0..ORDERS).any(|_| {
-            let (left, _) = random_order::<U>(random, &start, &lists);
-            difference(&expected, &left).is_some()
+            let (run, _) = random_order::<U>(random, &start, &lists);
+            difference(&expected, &run.left).is_some()
         });
         different += u64::from(found);
     }
@@ -944,8 +1040,8 @@ fn names_of_steps<U: Unit + ChannelUnit>() {
             from: (0..case.from).map(|number| number as u8).collect(),
             room: vec![0; 100],
         };
-        let (_, number, _) = names_of_program(&mut start.clone(), &program);
-        assert_eq!(number, case.number, "{}", case.what);
+        let alone = program_alone(&mut start.clone(), &program);
+        assert_eq!(alone.number, case.number, "{}", case.what);
         let lists = Lists {
             processors: [
                 vec![Turn {
@@ -962,8 +1058,8 @@ fn names_of_steps<U: Unit + ChannelUnit>() {
         let expected = one_after_another(&start, &lists);
         let random = &mut Random::new(1);
         let different = (0..40).any(|_| {
-            let (left, _) = random_order::<U>(random, &start, &lists);
-            difference(&expected, &left).is_some()
+            let (run, _) = random_order::<U>(random, &start, &lists);
+            difference(&expected, &run.left).is_some()
         });
         assert_eq!(different, !case.apart, "{}", case.what);
     }

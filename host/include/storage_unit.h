@@ -451,7 +451,7 @@ uint32_t storage_unit_play(uint32_t settings,
  * Returns the answer in one value, for storage_unit_number to take apart. What the caller must see
  * to is as for storage_unit_request: storage, keys, from, room and progress do not overlap; the
  * progress may have any alignment; calls for processors and channels of one storage take turns. And
- * the caller must see to a stack with 56 KB left; the call takes under 400 bytes of it for each
+ * the caller must see to a stack with 64 KB left; the call takes under 420 bytes of it for each
  * transfer in channel, of which there are at most 128. A step takes under 1 KB.
  *
  * storage_unit_channel_step: one step of a program, which is one CCW. Give it a progress of zeros

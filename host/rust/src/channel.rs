@@ -235,7 +235,7 @@ impl<B: AsMut<[u8]>, P: BorrowMut<[Processor; 2]>> Machine<B, P> {
     /// the other from the first on, and those that write fill `room` from its first byte on; what
     /// is not filled is kept.
     ///
-    /// It needs a stack with 56 KB left; it takes under 400 bytes of it for each transfer in channel,
+    /// It needs a stack with 64 KB left; it takes under 420 bytes of it for each transfer in channel,
     /// of which there are at most 128. A step takes under 1 KB.
     ///
     /// The records of the processors are neither used nor changed: no prefix, no low-address

@@ -952,7 +952,7 @@ for_each_channel! {
 }
 
 /// For a whole program: what the header asks for.
-const STACK: usize = 56 * 1024;
+const STACK: usize = 64 * 1024;
 
 /// For a step, of which the header says that it takes under 1 KB: the least that a thread can have,
 /// some KB more than this number, and less than the 64 KB of the data.

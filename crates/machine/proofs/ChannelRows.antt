@@ -1,6 +1,6 @@
 -- Rows of channel requests, computed: what each finds, and everything that it gives and leaves. They show each line of a request and of a CCW on
 -- both sides of its bounds, the order of the lines, chains, transfers in channel, data over several units, and a program that is overwritten by
--- what it reads. Beside them the 256 commands, all at once. Assumes nothing.
+-- what it reads. Beside them the 256 commands and the 256 flags, all at once. Assumes nothing.
 use Prim.Native.Nat.{ℕ, zero, suc, _+_, _-_}
 use mathlib.Core.Path.{_≡_, refl}
 use mathlib.Core.Bool.{Bool, true, false}
@@ -22,6 +22,7 @@ use Rattle.machine.specs.Key.{afterFetch, afterStore}
 use Rattle.machine.specs.Answers.{Values}
 use Rattle.machine.specs.Protection.{permitted}
 use Rattle.machine.specs.Channel.{bigEndian, ccwAt, operationOf, rangeForbidden, rangeRecorded, bytesMoved, firstRefusal, beforeFetching}
+use Rattle.machine.specs.Channel.{transferAllowed, programCheck, advanced}
 use Rattle.machine.specs.Channel.{beforeTransfer, withCcwFetched, carriedOut, obeyed, nextCcw, channelStep, steps, channelRun}
 
 -- 4,096 bytes of storage: these first bytes, and zeros; key array, channel key, first CCW, grant; bytes from the device, room of so many sevens
@@ -35,9 +36,9 @@ pub record Case : Type 0 where
   pub fromDevice : List ℕ
   pub roomLength : ℕ
 
--- number and count; address of the CCW to come, chaining, bytes taken and given; the keys, the room, and four bytes of storage at hex 7FE
+-- the whole answer, and count; address of the CCW to come, chaining, bytes taken and given; the keys, the room, and four bytes of storage at hex 7FE
 pub record Seen : Type 0 where
-  pub number : Option ℕ
+  pub answer : Option Values
   pub count : ℕ
   pub state : ChannelRecord
   pub keys : List ℕ
@@ -47,16 +48,12 @@ pub record Seen : Type 0 where
 abbrev storageOf : List ℕ → List ℕ
 storageOf bytes = bytes ++ replicate (4096 - length bytes) 0
 
-abbrev numberIn : Option Values → Option ℕ
-numberIn none = none
-numberIn (some v) = some (v .number)
-
 abbrev run : Case → Seen
 run c =
     let q : ChannelRequest = record { key = c .key; first = c .first; grant = c .grant } in
     let o = channelRun (c .settings) (storageOf (c .bytes)) (c .keys) q (c .fromDevice) (replicate (c .roomLength) 7) in
     record {
-      number = numberIn (o .answer);
+      answer = o .answer;
       count = o .count;
       state = o .state;
       keys = o .keys;
@@ -97,7 +94,7 @@ in4K bytes keys key first grant fromDevice roomLength =
 abbrev seen : (number count address : ℕ) → Chaining → (taken given : ℕ) → (keys room bytes : List ℕ) → Seen
 seen number count address chaining taken given keys room bytes =
     record {
-      number = some number;
+      answer = some (record { number = number; place = 0; word = 0; rule = 0 });
       count = count;
       state = record { ccw = address; chaining = chaining; taken = taken; given = given };
       keys = keys;
@@ -142,6 +139,18 @@ readTwice = ccw 2 0 8 0 0x40 0 2 ++ ccw 2 0 8 0 0 0 2
 abbrev toOddAddress : List ℕ
 toOddAddress = ccw 1 0 8 0 0x40 0 1 ++ ccw 8 0 0 4 0 0 0
 
+-- write a byte, and go to hex 10000
+abbrev toOutside : List ℕ
+toOutside = ccw 1 0 8 0 0x40 0 1 ++ ccw 8 1 0 0 0x80 0 5
+
+-- write a byte, and go to hex 800
+abbrev toUnit1 : List ℕ
+toUnit1 = ccw 1 0 0 0 0x40 0 1 ++ ccw 8 0 8 0 0 0 0
+
+-- read the last CCW of storage from the device, and go there
+abbrev toLast : List ℕ
+toLast = ccw 2 0 0x0F 0xF8 0x40 0 8 ++ ccw 8 0 0x0F 0xF8 0x20 1 0
+
 -- read the next CCW from the device
 abbrev reads : List ℕ
 reads = ccw 2 0 0 8 0x40 0 8
@@ -185,16 +194,25 @@ rows =
     ∷ (in2K readWrite K 15 4096 1 device 0, seen 71 0 4096 First 0 0 K [] Z)
     ∷ (in2K readWrite K 15 0xFFFFFFF8 1 device 0, seen 71 0 0xFFFFFFF8 First 0 0 K [] Z)
     ∷ (in2K [] K 0 4088 1 [] 0, seen 71 1 4088 First 0 0 (0 ∷ 4 ∷ []) [] Z)
+    -- the address that a transfer in channel names is tested as that of the next CCW; a chain that goes on behind the last CCW of storage
+    ∷ (in2K toOutside K 0 0 2 [] 1, seen 74 2 0x10000 Transfer 0 1 (4 ∷ 4 ∷ []) (0 ∷ []) Z)
+    ∷ (in2K toOutside K 0 0 3 [] 1, seen 71 2 0x10000 Transfer 0 1 (4 ∷ 4 ∷ []) (0 ∷ []) Z)
+    ∷ (in2K toUnit1 (0x51 ∷ 0x39 ∷ []) 5 0 2 [] 1, seen 74 2 0x800 Transfer 0 1 (0x54 ∷ 0x39 ∷ []) (1 ∷ []) Z)
+    ∷ (in2K toUnit1 (0x51 ∷ 0x39 ∷ []) 5 0 3 [] 1, seen 72 2 0x800 Transfer 0 1 (0x54 ∷ 0x39 ∷ []) (1 ∷ []) Z)
+    ∷ (in2K loop K 0 0 256 [] 128, seen 74 256 0 Transfer 0 128 (4 ∷ 4 ∷ []) (replicate 128 0) Z)
+    ∷ (in2K toLast K 0 0 4 (ccw 1 0 8 0 0x40 0 1) 1, seen 71 3 4096 Command 8 1 (4 ∷ 6 ∷ []) (0 ∷ []) Z)
     -- 72 for the reading: the CCW's unit is fetch-protected under another key; without fetch protection it is read. It comes after 71 for the address
     -- and before what the CCW is
     ∷ (in2K readWrite (0x39 ∷ 0 ∷ []) 5 4 1 device 4, seen 71 0 4 First 0 0 (0x39 ∷ 0 ∷ []) (7 ∷ 7 ∷ 7 ∷ 7 ∷ []) Z)
     ∷ (single (ccw 3 0 7 0xFE 0 0 4) (0x39 ∷ 0 ∷ []) 5 device 4, seen 72 0 0 First 0 0 (0x39 ∷ 0 ∷ []) (7 ∷ 7 ∷ 7 ∷ 7 ∷ []) Z)
     ∷ (single readWrite (0x39 ∷ 0 ∷ []) 5 device 4, seen 72 0 0 First 0 0 (0x39 ∷ 0 ∷ []) (7 ∷ 7 ∷ 7 ∷ 7 ∷ []) Z)
     ∷ (single readWrite (0x31 ∷ 0 ∷ []) 5 device 4, seen 72 1 0 First 0 0 (0x34 ∷ 0 ∷ []) (7 ∷ 7 ∷ 7 ∷ 7 ∷ []) Z)
-    -- 72 for the transfer: the second unit alone forbids; a write is a fetch
+    -- 72 for the transfer: the second unit alone forbids, or the first; a write is a fetch
     ∷ (single readWrite (0x51 ∷ 0x31 ∷ []) 5 device 4, seen 72 1 0 First 0 0 (0x54 ∷ 0x31 ∷ []) (7 ∷ 7 ∷ 7 ∷ 7 ∷ []) Z)
     ∷ (single (ccw 5 0 7 0xFE 0 0 4) (0x51 ∷ 0x31 ∷ []) 5 [] 4, seen 0 1 8 Ended 0 4 (0x54 ∷ 0x34 ∷ []) Z Z)
     ∷ (single (ccw 5 0 7 0xFE 0 0 4) (0x51 ∷ 0x3B ∷ []) 5 [] 4, seen 72 1 0 First 0 0 (0x54 ∷ 0x3B ∷ []) (7 ∷ 7 ∷ 7 ∷ 7 ∷ []) Z)
+    ∷ (single (ccw 6 0 7 0xFF 0 0 2) (0x51 ∷ 0x31 ∷ []) 5 device 0, seen 72 1 0 First 0 0 (0x54 ∷ 0x31 ∷ []) [] Z)
+    ∷ (single (ccw 6 0 7 0xFE 0 0 4) (0x31 ∷ 0x51 ∷ []) 5 device 0, seen 72 1 0 First 0 0 (0x34 ∷ 0x51 ∷ []) [] Z)
     -- 71: a bad command, bad flags, a zero count; bad flags come before 73
     ∷ (single (ccw 3 0 7 0xFE 0 0 4) K 0 device 4, seen 71 1 0 First 0 0 F (7 ∷ 7 ∷ 7 ∷ 7 ∷ []) Z)
     ∷ (single (ccw 2 0 7 0xFE 0x80 0 9) K 0 device 4, seen 71 1 0 First 0 0 F (7 ∷ 7 ∷ 7 ∷ 7 ∷ []) Z)
@@ -204,6 +222,10 @@ rows =
     ∷ (single (ccw 6 0 0x0F 0xFC 0 0 4) K 0 device 0, seen 0 1 8 Ended 4 0 (4 ∷ 6 ∷ []) [] Z)
     ∷ (single (ccw 6 0 0x0F 0xFC 0 0 5) K 0 device 0, seen 71 1 0 First 0 0 F [] Z)
     ∷ (single (ccw 1 0xFF 0xFF 0xFF 0 0 2) K 0 [] 2, seen 71 1 0 First 0 0 F (7 ∷ 7 ∷ []) Z)
+    ∷ (single (ccw 1 0 0x0F 0xFE 0 0 2) K 0 [] 2, seen 0 1 8 Ended 0 2 (4 ∷ 4 ∷ []) (0 ∷ 0 ∷ []) Z)
+    ∷ (single (ccw 1 0 0x0F 0xFF 0 0 2) K 0 [] 2, seen 71 1 0 First 0 0 F (7 ∷ 7 ∷ []) Z)
+    ∷ (single (ccw 1 0 0 0 0 0x10 1) K 0 [] 1, seen 71 1 0 First 0 0 F (7 ∷ []) Z)
+    ∷ (single (ccw 1 1 0 0 0 0 1) K 0 [] 1, seen 71 1 0 First 0 0 F (7 ∷ []) Z)
     -- 73: bytes or room short; it comes before 72
     ∷ (single (ccw 2 0 8 0 0 0 5) (0 ∷ 0x30 ∷ []) 5 device 0, seen 73 1 0 First 0 0 (4 ∷ 0x30 ∷ []) [] Z)
     ∷ (single (ccw 2 0 8 0 0 0 4) (0 ∷ 0x30 ∷ []) 5 device 0, seen 72 1 0 First 0 0 (4 ∷ 0x30 ∷ []) [] Z)
@@ -243,3 +265,35 @@ from (suc n) a = a ∷ from n (a + 1)
 pub commands : map (λ c. asked (operationOf (record { command = c; address = 0; flags = 0; count = 1 }))) (from 256 0) ≡ repeated 16
 unfolding operationOf
 commands = refl
+
+-- what a CCW with each of the 256 flags asks for: hex 40 is carried, others are bad; a transfer in channel ignores them
+pub flags-of-write : map (λ f. operationOf (record { command = 1; address = 0x123456; flags = f; count = 0xFEDC })) (from 256 0)
+    ≡ Data Fetch 0x123456 0xFEDC false ∷ replicate 63 Invalid ++ Data Fetch 0x123456 0xFEDC true ∷ replicate 191 Invalid
+unfolding operationOf
+flags-of-write = refl
+
+pub flags-of-read : map (λ f. operationOf (record { command = 2; address = 0x123456; flags = f; count = 0xFEDC })) (from 256 0)
+    ≡ Data Store 0x123456 0xFEDC false ∷ replicate 63 Invalid ++ Data Store 0x123456 0xFEDC true ∷ replicate 191 Invalid
+unfolding operationOf
+flags-of-read = refl
+
+pub flags-of-transfer : map (λ f. operationOf (record { command = 8; address = 0x123456; flags = f; count = f })) (from 256 0)
+    ≡ replicate 256 (TransferInChannel 0x123456)
+unfolding operationOf
+flags-of-transfer = refl
+
+-- a count of zero is bad, with each flag and each way
+pub zero-counts : map (λ f. operationOf (record { command = 1; address = 0; flags = f; count = 0 })) (0 ∷ 0x40 ∷ [])
+    ++ map (λ f. operationOf (record { command = 2; address = 0; flags = f; count = 0 })) (0 ∷ 0x40 ∷ []) ≡ replicate 4 Invalid
+unfolding operationOf
+zero-counts = refl
+
+-- the CCW behind the last of 16,777,216 bytes is not that at 0
+pub no-wrap : (advanced true 0 1 (record { ccw = 0xFFFFF8; chaining = Command; taken = 0; given = 0 }) .ccw ≡ 0x1000000)
+    × (advanced true 1 0 (record { ccw = 0xFFFFF8; chaining = Command; taken = 0; given = 0 }) .ccw ≡ 0x1000000)
+no-wrap = (refl, refl)
+
+-- where a transfer in channel may stand: only behind a CCW that chains; data may stand anywhere
+pub placed : (map transferAllowed (First ∷ Command ∷ Transfer ∷ Ended ∷ []) ≡ false ∷ true ∷ false ∷ false ∷ [])
+    × (map (programCheck (Data Fetch 0 1 false)) (First ∷ Command ∷ Transfer ∷ Ended ∷ []) ≡ replicate 4 false)
+placed = (refl, refl)

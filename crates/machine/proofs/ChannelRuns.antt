@@ -1,6 +1,6 @@
 -- The rules alone: what a step does with the count of CCWs fetched, and the run of a request. A request that has answered stays as it is; a step
 -- that leaves the request under way fetched a CCW, which was granted; so a step counts one exactly where it fetches, and no more are counted
--- than are granted. A transfer in channel that was followed stood where one may stand.
+-- than are granted, and every request answers. A transfer in channel that was followed stood where one may stand.
 -- Assumes nothing.
 use Prim.Native.Nat.{ℕ, zero, suc, _+_, _-_, _<_, _≤_}
 use mathlib.Core.Path.{_≡_, refl, sym, ap, _∙_}
@@ -20,13 +20,15 @@ use Rattle.machine.specs.declared.channel.ChannelOperation.the-variants.
 use Rattle.machine.specs.declared.channel.Chaining.the-variants.{Command, Transfer, Ended}
 use Rattle.machine.specs.declared.channel.Standing.{Standing}
 use Rattle.machine.specs.declared.channel.Standing.the-variants.{UnderWay, Answered}
+use Rattle.machine.specs.Answers.{Values}
 use Rattle.machine.specs.Channel.{Channel, refused, operationOf, ccwAt, firstRefusal, beforeFetching}
 use Rattle.machine.specs.Channel.{fetchingForbidden, transferAllowed, beforeTransfer, dataForbidden, withCcwFetched, carriedOut}
 use Rattle.machine.specs.Channel.{unlessRefused, unlessForbidden}
 use Rattle.machine.specs.Channel.{obeyed, nextCcw, stepBy, channelStep, steps, unrefused, fetchesBy, fetchesCcw, stepsThatFetch}
+use Rattle.machine.specs.Channel.{channel, channelValues, begun, answerIn, channelRun}
 use Rattle.machine.proofs.Verdicts.{not-both}
 use Rattle.machine.proofs.ChannelSteps.{operationFound, CcwOutcome, unfetched, unread, unobeyed, untransferred, obeyedWhole, ccw-outcome}
-use Rattle.machine.proofs.ChannelSteps.{no-line, fetchable, step-answered}
+use Rattle.machine.proofs.ChannelSteps.{no-line, fetchable, step-under-way, step-answered}
 
 -- a standing is not both
 pub not-under-way : {standing : Standing} {answer : ChannelAnswer} → standing ≡ Answered answer → standing ≡ UnderWay → ⊥
@@ -173,3 +175,46 @@ module _ (s : Settings) (q : ChannelRequest) (fromDevice : List ℕ) where
   unfolding steps
   steps-within zero c h = h
   steps-within (suc n) c h = steps-within n (channelStep s q fromDevice c) (step-within c h)
+
+  -- if a request is still under way after so many steps, each of them fetched a CCW
+  under-way-counts : (n : ℕ) (c : Channel) → steps n s q fromDevice c .progress .standing ≡ UnderWay
+      → n + c .progress .fetched ≤ steps n s q fromDevice c .progress .fetched
+  unfolding steps
+  under-way-counts zero c stands = omega arith
+  under-way-counts (suc n) c stands = go (c .progress .standing) refl (next .progress .standing) refl (under-way-counts n next stands)
+    where
+      next : Channel
+      next = channelStep s q fromDevice c
+
+      end : Channel
+      end = steps n s q fromDevice next
+
+      not-answered : {answer : ChannelAnswer} → next .progress .standing ≡ Answered answer → ⊥
+      not-answered f = not-under-way (ap (λ d. d .progress .standing) (answered-stays n next f) ∙ f) stands
+
+      go : (standing : Standing) → c .progress .standing ≡ standing → (then : Standing) → next .progress .standing ≡ then
+          → n + next .progress .fetched ≤ end .progress .fetched → suc n + c .progress .fetched ≤ end .progress .fetched
+      go (Answered answer) e then f counts = absurd (not-answered (ap (λ d. d .progress .standing) (step-answered s q fromDevice c _ e) ∙ e))
+      go UnderWay e (Answered answer) f counts = absurd (not-answered f)
+      go UnderWay e UnderWay f counts =
+          let step = step-under-way s q fromDevice c e in
+          let one = still-under-way c (ap (λ d. d .progress .standing) (sym step) ∙ f) .0 in
+          omega (arith, counts, ap (λ d. d .progress .fetched) step, one)
+
+  -- so a request answers: a step for each CCW that is granted, and one more, are enough
+  pub request-answers : (storage keys room : List ℕ) → (v : Values) × (channelRun s storage keys q fromDevice room .answer ≡ some v)
+  unfolding channelRun
+  request-answers storage keys room = go (end .progress .standing) refl
+    where
+      start : Channel
+      start = channel storage keys room (begun q)
+
+      end : Channel
+      end = steps (q .grant + 1) s q fromDevice start
+
+      go : (standing : Standing) → end .progress .standing ≡ standing → (v : Values) × (answerIn standing ≡ some v)
+      go (Answered answer) e = (channelValues answer, refl)
+      go UnderWay e =
+          let counts = under-way-counts (q .grant + 1) start e in
+          let within = steps-within (q .grant + 1) start (omega arith) in
+          absurd (omega (arith, counts, within))

@@ -1,10 +1,10 @@
 -- One CCW of the channel, by the lines that stop it: what is left in each case, that a refused CCW changes nothing but the key of the unit from
--- which it was fetched, and that a CCW lies in one unit. The proofs go by the verdicts of the lines. Assumes nothing.
+-- which it was fetched, that a CCW lies in one unit, and that lengths stay. The proofs go by the verdicts of the lines. Assumes nothing.
 use Prim.Native.Nat.{ℕ, _+_, _/_, _%_, _<_, _≤_}
 use mathlib.Core.Path.{_≡_, refl, sym, ap, subst, _∙_}
 use mathlib.Core.Bool.{Bool, true, false, cond, not, _||_}
-use mathlib.Core.Logic.{_⊎_, inl, inr}
-use mathlib.Core.List.{List, _∷_}
+use mathlib.Core.Logic.{inl, inr, ⊎-elim}
+use mathlib.Core.List.{List, [], _∷_}
 use mathlib.Core.Option.{Option, none, some}
 use native.Mathlib.Omega.{arith}
 use lib.ListN.{length, getD, set}
@@ -24,12 +24,12 @@ use Rattle.machine.specs.declared.channel.ChannelAnswer.the-variants.{Co
 use Rattle.machine.specs.Lists.{written}
 use Rattle.machine.specs.Numbers.{lengthsValid, unitOf}
 use Rattle.machine.specs.Key.{afterFetch}
-use Rattle.machine.specs.Channel.{ccwAt, operationOf, outside, rangeRecorded, Channel, refused, firstRefusal, beforeFetching, fetchingForbidden}
-use Rattle.machine.specs.Channel.{dataForbidden, beforeTransfer, withCcwFetched, carriedOut, obeyed, nextCcw, stepBy, channelStep}
+use Rattle.machine.specs.Channel.{ccwAt, operationOf, outside, rangeRecorded, bytesMoved, Channel, refused, firstRefusal, beforeFetching}
+use Rattle.machine.specs.Channel.{fetchingForbidden, dataForbidden, beforeTransfer, withCcwFetched, carriedOut, obeyed, nextCcw, stepBy, channelStep}
 use Rattle.machine.specs.Channel.{channelNumberOf}
 use Rattle.machine.specs.Conditions.{isIn, channelNumbers, withKeyFetched, CcwRefused, ChannelCondition1}
 use Rattle.machine.proofs.Verdicts.{neither}
-use Rattle.machine.proofs.Written.{written-once}
+use Rattle.machine.proofs.Written.{length-written, written-once}
 
 -- what the CCW to come asks for
 abbrev pub operationFound : Channel → ChannelOperation
@@ -191,3 +191,58 @@ module _ (s : Settings) (q : ChannelRequest) (fromDevice : List ℕ) (c : Channe
       unchanged r u e =
           let step = step-under-way u in
           subst (CcwRefused s c) (sym step) (refused-ccw-keeps r u (ap (λ d. d .progress .standing) (sym step) ∙ e))
+
+-- the numbers of document 02
+pub channel-numbers : channelNumbers ≡ 0 ∷ 64 ∷ 65 ∷ 66 ∷ 74 ∷ 71 ∷ 72 ∷ 73 ∷ []
+channel-numbers = refl
+
+-- what condition 1 says of a CCW that is refused: where it was not fetched, nothing at all is changed; where it was, the key of its unit
+module _ (s : Settings) (before after : Channel) (left : CcwRefused s before after) where
+  pub unfetched-changes-nothing : after .progress .fetched ≡ before .progress .fetched
+      → (after .storage ≡ before .storage) × (after .keys ≡ before .keys) × (after .room ≡ before .room)
+      × (after .progress .state ≡ before .progress .state)
+  unfetched-changes-nothing h =
+      (left .storage, ⊎-elim (λ e. e .0) (λ e. absurd (omega (arith, h, e .1))) (left .keys), left .room, left .state)
+
+  pub fetched-changes-one-key : after .progress .fetched ≡ before .progress .fetched + 1
+      → after .keys ≡ withKeyFetched (before .keys) (unitOf s (before .progress .state .ccw))
+  fetched-changes-one-key h = ⊎-elim (λ e. absurd (omega (arith, h, e .1))) (λ e. e .0) (left .keys)
+
+-- A step keeps the lengths, so the lines that look at them let every step pass or none.
+module _ (s : Settings) (q : ChannelRequest) (fromDevice : List ℕ) (c : Channel) where
+  abbrev SameLengths : Channel → Type 0
+  SameLengths d =
+      (length (d .storage) ≡ length (c .storage)) × (length (d .keys) ≡ length (c .keys)) × (length (d .room) ≡ length (c .room))
+
+  fetched-lengths : SameLengths (withCcwFetched s c)
+  unfolding withCcwFetched rangeRecorded
+  fetched-lengths = (refl, length-written (c .keys) _ _ 8, refl)
+
+  carried-lengths : (o : ChannelOperation) → SameLengths (carriedOut o s fromDevice (withCcwFetched s c))
+  unfolding carriedOut rangeRecorded bytesMoved
+  carried-lengths (TransferInChannel address) = fetched-lengths
+  carried-lengths (Data Fetch address count chains) =
+      let (storage, keys, room) = fetched-lengths in
+      (storage, length-written (withCcwFetched s c .keys) _ _ count ∙ keys, length-written (withCcwFetched s c .room) _ _ count ∙ room)
+  carried-lengths (Data Store address count chains) =
+      let (storage, keys, room) = fetched-lengths in
+      (length-written (withCcwFetched s c .storage) _ _ count ∙ storage, length-written (withCcwFetched s c .keys) _ _ count ∙ keys, room)
+  carried-lengths Invalid = fetched-lengths
+
+  next-lengths : SameLengths (nextCcw s q fromDevice c)
+  next-lengths = go (ccw-outcome s q fromDevice c)
+    where
+      go : CcwOutcome s q fromDevice c (nextCcw s q fromDevice c) → SameLengths (nextCcw s q fromDevice c)
+      go (unfetched r h f) = rw f (refl, refl, refl)
+      go (unread h k f) = rw f (refl, refl, refl)
+      go (unobeyed r h k l f) = rw f fetched-lengths
+      go (untransferred h k l m f) = rw f fetched-lengths
+      go (obeyedWhole h k l m f) = rw f (carried-lengths (operationFound c))
+
+  pub step-lengths : SameLengths (channelStep s q fromDevice c)
+  unfolding channelStep
+  step-lengths = go (c .progress .standing)
+    where
+      go : (standing : Standing) → SameLengths (stepBy standing s q fromDevice c)
+      go UnderWay = next-lengths
+      go (Answered answer) = (refl, refl, refl)

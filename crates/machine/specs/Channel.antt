@@ -140,7 +140,7 @@ firstRefusal [] = none
 firstRefusal (l ∷ ls) = cond (l .0) (some (l .1)) (firstRefusal ls)
 
 -- 64 the lengths, as for a processor; 65 a channel key over 15; 66 a grant not 1 to 256. They are tested at each step of a request under way; where
--- they let the first CCW pass, they let every later one pass, since they find the same lengths and operands
+-- they let the first CCW pass, they let every later one pass, since they find the same operands and lengths (law ChannelSteps.step-lengths)
 abbrev pub requestLines : Settings → (storageLength keyLength : ℕ) → ChannelRequest → List (Bool × ChannelReason)
 requestLines s storageLength keyLength q =
     (not (lengthsValid s storageLength keyLength), Configuration)

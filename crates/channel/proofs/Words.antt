@@ -1,6 +1,6 @@
--- The CCW: its numbers byte by byte, and what is known of the operation it asks for. By arithmetic on digits, and by the cases
+-- The CCW: its numbers of two words, and what is known of the operation it asks for. By arithmetic on digits, and by the cases
 -- of the command. Assumes nothing.
-use Prim.Native.Nat.{ℕ, _+_, _*_, _%_, _<_}
+use Prim.Native.Nat.{ℕ, _+_, _*_, _/_, _%_, _<_}
 use mathlib.Core.Path.{_≡_, refl, _∙_}
 use mathlib.Core.Bool.{Bool, true, false, cond, not, _||_}
 use mathlib.Core.List.{List}
@@ -17,31 +17,36 @@ use Rattle.machine.specs.Bits.{field}
 use Rattle.channel.specs.Requests.{Counted}
 use Rattle.machine.specs.Channel.{bigEndian, ccwAt, dataOperation, operationOf}
 
-big-endian-one : (bytes : List ℕ) (i : ℕ) → getD bytes i 0 ≡ bigEndian 1 bytes i
+-- four bytes, of two and two
+pub word-read : (bytes : List ℕ) (a : ℕ) {high low : ℕ} → high ≡ getD bytes a 0 * 256 + getD bytes (a + 1) 0
+    → low ≡ getD bytes (a + 2) 0 * 256 + getD bytes (a + 3) 0 → high * 65536 + low ≡ bigEndian 4 bytes a
 unfolding bigEndian
-big-endian-one bytes i = omega arith
+word-read bytes a high-is low-is =
+    let second : a + 1 + 1 ≡ a + 2 = omega arith in
+    let third : a + 2 + 1 ≡ a + 3 = omega arith in
+    rw (second, third) (omega (arith, high-is, low-is))
 
-big-endian-two : (bytes : List ℕ) (i : ℕ) → getD bytes i 0 * 256 + getD bytes (i + 1) 0 ≡ bigEndian 2 bytes i
-unfolding bigEndian
-big-endian-two bytes i = omega arith
+-- the parts of a word: its first byte and the three behind it, and the last two
+module _ (bytes : List ℕ) (small : (i : ℕ) → getD bytes i 0 < 256) (a : ℕ) where
+  first-byte : bigEndian 4 bytes a / 0x1000000 ≡ bigEndian 1 bytes a
+  unfolding bigEndian
+  first-byte = omega (arith, small a, small (a + 1), small (a + 1 + 1), small (a + 1 + 1 + 1))
 
-big-endian-three : (bytes : List ℕ) (i : ℕ)
-    → getD bytes i 0 * 65536 + (getD bytes (i + 1) 0 * 256 + getD bytes (i + 1 + 1) 0) ≡ bigEndian 3 bytes i
-unfolding bigEndian
-big-endian-three bytes i = omega arith
+  three-bytes : bigEndian 4 bytes a % 0x1000000 ≡ bigEndian 3 bytes (a + 1)
+  unfolding bigEndian
+  three-bytes = omega (arith, small a, small (a + 1), small (a + 1 + 1), small (a + 1 + 1 + 1))
 
-pub ccw-read : (bytes : List ℕ) (a : ℕ) {address count : ℕ}
-    → address ≡ getD bytes (a + 1) 0 * 65536 + (getD bytes (a + 2) 0 * 256 + getD bytes (a + 3) 0)
-    → count ≡ getD bytes (a + 6) 0 * 256 + getD bytes (a + 7) 0
-    → record { command = getD bytes a 0; address = address; flags = getD bytes (a + 4) 0; count = count } ≡ ccwAt bytes a
+  last-bytes : bigEndian 4 bytes a % 0x10000 ≡ bigEndian 2 bytes (a + 1 + 1)
+  unfolding bigEndian
+  last-bytes = omega (arith, small a, small (a + 1), small (a + 1 + 1), small (a + 1 + 1 + 1))
+
+pub ccw-read : (bytes : List ℕ) (a : ℕ) {first second : ℕ} → ((i : ℕ) → getD bytes i 0 < 256) → first ≡ bigEndian 4 bytes a
+    → second ≡ bigEndian 4 bytes (a + 4)
+    → record { command = first / 0x1000000; address = first % 0x1000000; flags = second / 0x1000000; count = second % 0x10000 } ≡ ccwAt bytes a
 unfolding ccwAt
-ccw-read bytes a {address} {count} address-is count-is =
-    let second : a + 2 ≡ a + 1 + 1 = omega arith in
-    let third : a + 3 ≡ a + 1 + 1 + 1 = omega arith in
-    let last : a + 7 ≡ a + 6 + 1 = omega arith in
-    let addressed : address ≡ bigEndian 3 bytes (a + 1) = address-is ∙ rw (third, second) (big-endian-three bytes (a + 1)) in
-    let counted : count ≡ bigEndian 2 bytes (a + 6) = count-is ∙ rw last (big-endian-two bytes (a + 6)) in
-    rw (addressed, counted, big-endian-one bytes a, big-endian-one bytes (a + 4)) refl
+ccw-read bytes a small first-is second-is =
+    let sixth : a + 4 + 1 + 1 ≡ a + 6 = omega arith in
+    rw (first-is, second-is, first-byte bytes small a, three-bytes bytes small a, first-byte bytes small (a + 4), last-bytes bytes small (a + 4), sixth) refl
 
 -- the command, by remainders
 pub operation-tests : (c : Ccw)

@@ -5,33 +5,37 @@ use machine::channel::ChannelOperation;
 ghost use Prim.Native.Nat.{_+_, _*_, _≤_, _<_};
 ghost use mathlib.Core.Path.{_≡_};
 ghost use lib.ListN.{length};
-ghost use Rattle.machine.specs.Channel.{ccwAt, dataOperation, operationOf};
+ghost use Rattle.machine.specs.Channel.{bigEndian, ccwAt, dataOperation, operationOf};
 
-// Two bytes as a number, big-endian; and three.
+// Two bytes as a number, big-endian.
 fn of_two(high: u8, low: u8) -> u32
     ensures { λ r. ⌜ (r ≡ high * 256 + low) × (r < 65536) ⌝ }
 {
     high as u32 * 256 + low as u32
 }
 
-fn of_three(high: u8, middle: u8, low: u8) -> u32
-    ensures { λ r. ⌜ r ≡ high * 65536 + (middle * 256 + low) ⌝ }
+// The four bytes at an address as a number, big-endian.
+fn word_at(storage: &[u8], at: usize) -> u32
+    requires { ⌜ at + 4 ≤ length (now storage) ⌝ }
+    ensures { λ r. ⌜ r ≡ bigEndian 4 (now (storage .entry)) at ⌝ }
 {
-    high as u32 * 65536 + of_two(middle, low)
+    let high = of_two(storage[at], storage[at + 1]);
+    let low = of_two(storage[at + 2], storage[at + 3]);
+    high * 65536 + low
 }
 
-// The CCW at an address. The byte behind the flags is ignored.
+// The CCW at an address, of its two words. The byte behind the flags is ignored.
 pub(crate) fn ccw_at(storage: &[u8], at: usize) -> Ccw
     requires { ⌜ at + 8 ≤ length (now storage) ⌝ }
     ensures { λ r. ⌜ (r ≡ ccwAt (now (storage .entry)) at) × (r .count < 65536) ⌝ }
 {
-    let address = of_three(storage[at + 1], storage[at + 2], storage[at + 3]);
-    let count = of_two(storage[at + 6], storage[at + 7]);
+    let first = word_at(storage, at);
+    let second = word_at(storage, at + 4);
     Ccw {
-        command: storage[at],
-        address,
-        flags: storage[at + 4],
-        count,
+        command: (first / 0x1000000) as u8,
+        address: first % 0x1000000,
+        flags: (second / 0x1000000) as u8,
+        count: second % 0x10000,
     }
 }
 

@@ -1,77 +1,33 @@
--- `ccw_at` reads the bytes that the rules name. Assumes nothing.
+-- `ccw_at` takes the parts of the two words that the rules name. Assumes nothing.
+use native.Mathlib.Omega.{arith}
 use Rattle.channel.proofs.Words.{ccw-read}
 use borrow.Author.Needs.{needs}
 use Rattle.channel.proofs.ccw.ccw_at.Statement.{statement}
 use Rattle.channel.proofs.ccw.ccw_at.Tie as tie
+use Rattle.channel.proofs.ccw.ccw_at.Reads as reads
+use Rattle.channel.proofs.ccw.ccw_at.Lts as lts
+use Rattle.channel.proofs.ccw.word_at.Reads as word-at-reads
 
-add-of-three : tie.Need-add-of-three
-add-of-three c = search needs
+word-at-requires : tie.Need-word-at-requires
+word-at-requires c κs = search needs
 
-shared-slice-read-of-three : tie.Need-shared-slice-read-of-three
-shared-slice-read-of-three c = search needs
+add-word-at : tie.Need-add-word-at
+add-word-at c = search needs
 
-add-of-three-2 : tie.Need-add-of-three-2
-add-of-three-2 c = search needs
+word-at-requires-2 : tie.Need-word-at-requires-2
+word-at-requires-2 c κs = search needs
 
-shared-slice-read-of-three-2 : tie.Need-shared-slice-read-of-three-2
-shared-slice-read-of-three-2 c = search needs
+cast-t7 : tie.Need-cast-t7
+cast-t7 c = search needs
 
-add-of-three-3 : tie.Need-add-of-three-3
-add-of-three-3 c = search needs
-
-shared-slice-read-of-three-3 : tie.Need-shared-slice-read-of-three-3
-shared-slice-read-of-three-3 c = search needs
-
-of-three-requires : tie.Need-of-three-requires
-of-three-requires c κs = search needs
-
-add-of-two : tie.Need-add-of-two
-add-of-two c = search needs
-
-shared-slice-read-of-two : tie.Need-shared-slice-read-of-two
-shared-slice-read-of-two c = search needs
-
-add-of-two-2 : tie.Need-add-of-two-2
-add-of-two-2 c = search needs
-
-shared-slice-read-of-two-2 : tie.Need-shared-slice-read-of-two-2
-shared-slice-read-of-two-2 c = search needs
-
-of-two-requires : tie.Need-of-two-requires
-of-two-requires c κs = search needs
-
-shared-slice-read-t7 : tie.Need-shared-slice-read-t7
-shared-slice-read-t7 c = search needs
-
-add-t8 : tie.Need-add-t8
-add-t8 c = search needs
-
-shared-slice-read-t10 : tie.Need-shared-slice-read-t10
-shared-slice-read-t10 c = search needs
+cast-t10 : tie.Need-cast-t10
+cast-t10 c = search needs
 
 returns : tie.Need-returns
 returns c =
-    let counted = c .before .before in
-    let addressed = counted .before .before .before in
-    (ccw-read _ _ (addressed .of-three .ensures) (counted .of-two .ensures .0), counted .of-two .ensures .1)
+    let known = c .before .before in
+    (ccw-read _ _ (λ i. omega (arith, known .shared-slice-known .given i)) (c .before .word-at .ensures) (c .word-at2 .ensures), omega arith)
 
 pub ccw-at-spec : {M : Type 1} → statement M
 ccw-at-spec =
-    tie.close
-    (tie.spec
-    add-of-three
-    shared-slice-read-of-three
-    add-of-three-2
-    shared-slice-read-of-three-2
-    add-of-three-3
-    shared-slice-read-of-three-3
-    of-three-requires
-    add-of-two
-    shared-slice-read-of-two
-    add-of-two-2
-    shared-slice-read-of-two-2
-    of-two-requires
-    shared-slice-read-t7
-    add-t8
-    shared-slice-read-t10
-    returns)
+    tie.close (tie.spec word-at-requires add-word-at word-at-requires-2 cast-t7 cast-t10 returns)

@@ -1,10 +1,10 @@
 -- Rows of calls, computed: the result, the keys, the room and the bytes of the progress that each leaves, for a whole request, for each of its
--- two steps, and for calls that are refused for their settings, lengths or progress. Assumes nothing.
-use Prim.Native.Nat.{ℕ, _/_, _%_}
+-- two steps, and for calls that are refused for their settings, lengths or progress; and which numbers are a status. Assumes nothing.
+use Prim.Native.Nat.{ℕ, zero, suc, _+_, _/_, _%_}
 use mathlib.Core.Path.{_≡_, refl}
 use mathlib.Core.Bool.{true, false}
 use mathlib.Core.List.{List, [], _∷_, _++_, map}
-use lib.ListN.{length, replicate}
+use lib.ListN.{length, replicate, set}
 use Rattle.machine.specs.declared.channel.ChannelRequest.{ChannelRequest}
 use Rattle.machine.specs.Lists.{written, anyBelow}
 use Rattle.machine.specs.Key.{afterFetch, afterStore}
@@ -12,7 +12,7 @@ use Rattle.machine.specs.Protection.{permitted}
 use Rattle.machine.specs.Channel.{bigEndian, ccwAt, operationOf, rangeForbidden, rangeRecorded, bytesMoved, firstRefusal, beforeFetching}
 use Rattle.machine.specs.Channel.{beforeTransfer, withCcwFetched, carriedOut, obeyed, nextCcw, channelStep, steps, channelRun}
 use Rattle.house_record.specs.Little.{little, littleBytes}
-use Rattle.host_channel.specs.ChannelCalls.{ChannelCall, progressLeft, callUnless, channelCalled, channelStepCalled}
+use Rattle.host_channel.specs.ChannelCalls.{ChannelCall, statusValid, progressLeft, callUnless, channelCalled, channelStepCalled}
 
 -- read four bytes to hex 7FE, chain command; write three from hex 7FF
 abbrev storage : List ℕ
@@ -87,6 +87,11 @@ rows =
     ∷ (step 0 K 99 0 (progress 8 1 72 1 4 0), seen 72 0 K S (progress 8 1 72 1 4 0))
     ∷ (step 0 K 0 2 (progress 8 1 67 1 4 0), seen 65 0 K S (progress 8 1 67 1 4 0))
     ∷ (step 0 K 0 2 (progress 8 4 1 1 4 0), seen 65 0 K S (progress 8 4 1 1 4 0))
+    -- a byte that must be zero and is not: the first and the last of each of the two places
+    ∷ (step 0 K 0 2 (set zeros 6 1), seen 65 0 K S (set zeros 6 1))
+    ∷ (step 0 K 0 2 (set zeros 7 1), seen 65 0 K S (set zeros 7 1))
+    ∷ (step 0 K 0 2 (set zeros 12 1), seen 65 0 K S (set zeros 12 1))
+    ∷ (step 0 K 0 2 (set zeros 15 1), seen 65 0 K S (set zeros 15 1))
     ∷ []
 
 pub rows-met : map (λ r. r .0) rows ≡ map (λ r. r .1) rows
@@ -94,3 +99,12 @@ unfolding written anyBelow afterFetch afterStore permitted bigEndian ccwAt opera
     beforeFetching beforeTransfer withCcwFetched carriedOut obeyed nextCcw channelStep steps channelRun little littleBytes progressLeft callUnless
     channelCalled channelStepCalled
 rows-met = refl
+
+-- of the 256 numbers of a byte these are a status: 0 to 2, 64 to 66, 71 to 74
+abbrev from : ℕ → ℕ → List ℕ
+from zero a = []
+from (suc n) a = a ∷ from n (a + 1)
+
+pub statuses : map statusValid (from 256 0)
+    ≡ replicate 3 true ++ replicate 61 false ++ replicate 3 true ++ replicate 4 false ++ replicate 4 true ++ replicate 181 false
+statuses = refl

@@ -54,7 +54,7 @@ fn chains_on(progress: ChannelProgress) -> bool
 }
 
 // The CCWs from the one to come on that follow each other by chain command, up to an answer or to a transfer in channel. The progress is copied
-// part by part, so that the compiler keeps it in registers (docs/BENCHMARK.md).
+// part by part, which is faster (docs/BENCHMARK.md).
 fn run_chain(
     settings: Settings,
     storage: &mut [u8],

@@ -303,6 +303,13 @@ struct storage_unit_progress {
  * the change bit, RRB and RRBE set the reference bit to zero; SSK and SSKE replace the key. Hex 01
  * of a key that is written becomes zero.
  *
+ * A clean unit is an untouched unit. Over any calls on one storage, of all these functions and in
+ * any order, with the same settings and where the program itself writes neither storage nor keys
+ * between them: a unit whose change bit is zero after the last, and to which no completed SSK or
+ * SSKE was applied, holds the bytes that it held before the first. So a copy of the storage from
+ * before them is brought up to date with the units whose change bits are on and those to which a
+ * completed SSK or SSKE was applied: such an instruction can set a change bit to zero after a store.
+ *
  * storage_unit_play writes storage, keys and records as the requests that it plays do; of the
  * player also the four numbers behind the records; of the output the first `written` bytes and
  * never those behind them; the piece never. Refused, it writes nothing at all.

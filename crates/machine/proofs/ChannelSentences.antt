@@ -1,38 +1,34 @@
 -- The channel's rules held to the sentences of document 02 (W4): where each part of a CCW stands; when a range is forbidden, and what of keys
 -- and bytes an access to it leaves; and the seven lines of a CCW in their order, as one list.
 -- The proofs go by the verdicts of the lines and by runs of writes. Assumes nothing.
-use Prim.Native.Nat.{ℕ, _+_, _*_, _/_, _%_, _<_, _≤_}
-use mathlib.Core.Path.{_≡_, refl, sym, ap, _∙_}
+use Prim.Native.Nat.{ℕ, _+_, _*_, _%_, _<_}
+use mathlib.Core.Path.{_≡_, refl, ap, _∙_}
 use mathlib.Core.Bool.{Bool, true, false, cond, not, _||_}
-use mathlib.Core.Logic.{_≢_, _⊎_, inl, inr, ⊎-elim}
+use mathlib.Core.Logic.{_≢_, _⊎_, ⊎-elim}
 use mathlib.Core.List.{List, [], _∷_, _++_}
 use mathlib.Core.Option.{Option, none, some}
 use native.Mathlib.Omega.{arith}
-use lib.ListN.{length, getD, List·getD-eq-default}
-use lib.Dec.{eqb, leb, ltb}
-use borrow.Author.Tests.{eqb-true, eqb-false, not-true}
-use native.Mathlib.Decide.{decLt}
+use lib.ListN.{length, getD}
+use lib.Dec.{eqb, leb}
+use borrow.Author.Tests.{not-true}
 use Rattle.machine.specs.declared.Settings.{Settings}
 use Rattle.machine.specs.declared.AccessKind.{AccessKind}
 use Rattle.machine.specs.declared.AccessKind.the-variants.{Fetch, Store}
 use Rattle.machine.specs.declared.channel.ChannelRequest.{ChannelRequest}
-use Rattle.machine.specs.declared.channel.Ccw.{Ccw}
 use Rattle.machine.specs.declared.channel.ChannelOperation.{ChannelOperation}
 use Rattle.machine.specs.declared.channel.ChannelOperation.the-variants.{TransferInChannel, Data, Invalid}
 use Rattle.machine.specs.declared.channel.ChannelReason.{ChannelReason}
 use Rattle.machine.specs.declared.channel.ChannelReason.the-variants.{GrantUsed, Program, Protection, Device}
 use Rattle.machine.specs.declared.channel.ChannelAnswer.the-variants.{Refused}
-use Rattle.machine.specs.declared.channel.Standing.{Standing}
 use Rattle.machine.specs.declared.channel.Standing.the-variants.{Answered}
-use Rattle.machine.specs.Lists.{written, anyBelow}
 use Rattle.machine.specs.Numbers.{unitOf}
 use Rattle.machine.specs.Key.{afterFetch}
 use Rattle.machine.specs.Protection.{permitted, recorded}
-use Rattle.machine.specs.Channel.{bigEndian, ccwAt, operationOf, outside, rangeForbidden, rangeRecorded, bytesMoved, Channel}
+use Rattle.machine.specs.Channel.{bigEndian, ccwAt, outside, rangeForbidden, rangeRecorded, bytesMoved, Channel}
 use Rattle.machine.specs.Channel.{firstRefusal, requestLines, addressLines, beforeFetching, fetchingForbidden, programCheck, dataOutside, deviceShort}
-use Rattle.machine.specs.Channel.{dataForbidden, beforeTransfer, withCcwFetched, carriedOut, obeyed, nextCcw}
-use Rattle.machine.proofs.Written.{length-written, written-elsewhere, written-there}
-use Rattle.machine.proofs.Verdicts.{any-at, any-found, any-none, any-same, tested}
+use Rattle.machine.specs.Channel.{dataForbidden, beforeTransfer, withCcwFetched, carriedOut, nextCcw}
+use Rattle.machine.proofs.Written.{written-elsewhere, written-there, marked-either}
+use Rattle.machine.proofs.Verdicts.{any-at, any-found, any-same}
 use Rattle.machine.proofs.Tests.{Tells}
 use Rattle.machine.proofs.KeyBytes.{key-recorded}
 use Rattle.machine.proofs.ChannelSteps.{operationFound, CcwOutcome, unfetched, unread, unobeyed, untransferred, obeyedWhole, ccw-outcome}
@@ -106,39 +102,17 @@ unfolding permitted
 fetch-permits Fetch accessKey k = let kept = key-recorded Fetch k in rw (kept .access-control, kept .fetch-protection)
 fetch-permits Store accessKey k = let kept = key-recorded Fetch k in rw (kept .access-control)
 
--- a key after the fetching of a range: as before, or as a completed fetch leaves it
+-- the fetching of a range permits and forbids nothing: each key is as before, or as a completed fetch leaves it
 module _ (s : Settings) (keys : List ℕ) (start count : ℕ) where
-  fetched-key : (u : ℕ) → (getD (rangeRecorded s Fetch keys start count) u 0 ≡ getD keys u 0)
-      ⊎ (getD (rangeRecorded s Fetch keys start count) u 0 ≡ afterFetch (getD keys u 0))
-  unfolding rangeRecorded
-  fetched-key u = go (tested (anyBelow (λ i. eqb (unitOf s (start + i)) u) count)) (decLt u (length keys))
-    where
-      there : anyBelow (λ i. eqb (unitOf s (start + i)) u) count ≡ true → u < length keys
-          → getD (rangeRecorded s Fetch keys start count) u 0 ≡ afterFetch (getD keys u 0)
-      there e h =
-          let (i, l, f) = any-found _ count e in
-          let q = eqb-true (unitOf s (start + i)) u f in
-          rw q at (range-key s Fetch keys start count i l (rw q h))
-
-      go : (anyBelow (λ i. eqb (unitOf s (start + i)) u) count ≡ true) ⊎ (anyBelow (λ i. eqb (unitOf s (start + i)) u) count ≡ false)
-          → Dec (u < length keys)
-          → (getD (rangeRecorded s Fetch keys start count) u 0 ≡ getD keys u 0)
-          ⊎ (getD (rangeRecorded s Fetch keys start count) u 0 ≡ afterFetch (getD keys u 0))
-      go (inl e) (yes h) = inr (there e h)
-      go (inl e) (no h) =
-          let same = length-written keys (λ i. unitOf s (start + i)) (λ i. afterFetch (getD keys (unitOf s (start + i)) 0)) count in
-          let past = List·getD-eq-default (rangeRecorded s Fetch keys start count) 0 {n = u} (omega (arith, same)) in
-          inl (past ∙ sym (List·getD-eq-default keys 0 {n = u} (omega arith)))
-      go (inr e) d = inl (range-other-key s Fetch keys start count u (λ i h. eqb-false _ u (any-none (λ j. eqb (unitOf s (start + j)) u) count e i h)))
-
   pub fetched-forbidden : (kind : AccessKind) (accessKey from n : ℕ)
       → rangeForbidden s kind accessKey (rangeRecorded s Fetch keys start count) from n ≡ rangeForbidden s kind accessKey keys from n
-  unfolding rangeForbidden
+  unfolding rangeForbidden rangeRecorded
   fetched-forbidden kind accessKey from n = any-same _ _ n (λ i h. ap not (permitted-same (unitOf s (from + i))))
     where
       permitted-same : (u : ℕ) → permitted kind accessKey (getD (rangeRecorded s Fetch keys start count) u 0) ≡ permitted kind accessKey (getD keys u 0)
       permitted-same u =
-          ⊎-elim (λ e. ap (permitted kind accessKey) e) (λ e. ap (permitted kind accessKey) e ∙ fetch-permits kind accessKey (getD keys u 0)) (fetched-key u)
+          ⊎-elim (λ e. ap (permitted kind accessKey) e) (λ e. ap (permitted kind accessKey) e ∙ fetch-permits kind accessKey (getD keys u 0))
+          (marked-either keys (λ i. unitOf s (start + i)) afterFetch count u)
 
 -- lines one after another
 abbrev orElse : Option ChannelReason → Option ChannelReason → Option ChannelReason

@@ -7,6 +7,7 @@ pub mod SmallFacts
 -- A single request of a processor
 pub mod Prefixing
 pub mod Units
+pub mod UnitBytes
 pub mod KeyBytes
 pub mod AbsoluteAddress
 pub mod BeforeProtection

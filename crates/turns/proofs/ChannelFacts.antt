@@ -10,13 +10,12 @@ use mathlib.Core.Logic.{_≢_, inl, inr}
 use mathlib.Core.List.{List, [], _∷_}
 use native.Mathlib.Decide.{ℕ-discrete}
 use native.Mathlib.Omega.{arith}
-use lib.ListN.{length, getD, set, replicate, length-set}
+use lib.ListN.{length, getD, set, length-set}
 use lib.Seq.{getD-set-same, getD-set-other, set-set}
 use borrow.Author.Tests.{ne-eqb}
 use Rattle.machine.specs.declared.Settings.{Settings}
-use Rattle.machine.specs.declared.Processor.{Processor}
 use Rattle.machine.specs.declared.Request.the-variants.{Access}
-use Rattle.machine.specs.declared.AccessKind.the-variants.{Fetch, Store}
+use Rattle.machine.specs.declared.AccessKind.the-variants.{Fetch}
 use Rattle.machine.specs.declared.channel.Ccw.{Ccw}
 use Rattle.machine.specs.declared.channel.ChannelOperation.the-variants.{Data}
 use Rattle.machine.specs.declared.channel.Chaining.the-variants.{Command, Ended}
@@ -42,33 +41,13 @@ use Rattle.turns.specs.Parties.{Joint, run, turn}
 use Rattle.turns.specs.ThreeLists.{ChannelTurn, ChannelGiven, Work, requests, between, underWay, atEnd, found, goesOn, workThen, turnNames, Party}
 use Rattle.turns.specs.ThreeLists.{processor0, processor1, channel}
 use Rattle.turns.specs.ThreeLists.{parties, start, namedAt, Apart, Whole}
+use Rattle.turns.proofs.Starts.{settings, memory, store, reading, readOne}
 use Rattle.turns.proofs.Wholes.{own-work, each-step, at-end, rested}
 use Rattle.turns.proofs.Reaches.{ccw-same}
 use Rattle.turns.proofs.NamedModes.{unnamed-not-otherwise, fetching-not-otherwise}
 use Rattle.turns.proofs.ChannelNaming.{by-lines}
 use Rattle.turns.proofs.Endings.{ending}
 use Rattle.turns.proofs.ThreeLists.{any-order}
-
--- 2K units, extensions present; prefixes 0 and 4096, PSW key 0, supervisor, bit 3 off; zero keys
-abbrev settings : Settings
-settings = record { «four_k» = false; extensions = true }
-
-abbrev processor : ℕ → Processor
-processor prefix = record { «psw_key» = 0; problem = false; «low_protection» = false; «key_control» = false; prefix = prefix; code = 0 }
-
-abbrev memory : List ℕ → State
-memory storage = record { storage = storage; keys = replicate 32 0; processors = processor 0 ∷ processor 4096 ∷ [] }
-
--- processor n stores one byte at a real address
-abbrev store : ℕ → ℕ → ℕ → Turn
-store n real b = record { processorNumber = n; request = Access Store real 1; buffer = b ∷ [] }
-
--- a CCW that reads one byte from the device into absolute 12288, and a request with it: key 0, the CCW at 8192, one CCW granted
-abbrev reading : Ccw
-reading = record { command = 2; address = 12288; flags = 0; count = 1 }
-
-abbrev readOne : ℕ → ChannelTurn
-readOne b = record { request = record { key = 0; first = 8192; grant = 1 }; fromDevice = b ∷ []; room = [] }
 
 -- A list that comes to its end at its first turn: what that turn names, and nothing then
 ended-names-nothing : (s : Settings) (m : State) (w : Work) (u : ℕ) → atEnd w ≡ true → turnNames s m w u ≡ unnamed

@@ -19,6 +19,7 @@ pub mod Endings
 -- The claim
 pub mod ThreeLists
 pub mod TwoLists
+pub mod Starts
 pub mod TurnFacts
 pub mod ChannelFacts
 -- The turns of one request of the channel are its run
@@ -26,5 +27,9 @@ pub mod ChannelRuns
 -- When a request of a processor names units at all; what a step of the channel names, by what it answers
 pub mod Naming
 pub mod ChannelNaming
+-- A clean block is an untouched block: the law of a single turn, the claim, facts
+pub mod ChangeBits
+pub mod CleanUnits
+pub mod CleanFacts
 -- The condition
 pub mod Conditions

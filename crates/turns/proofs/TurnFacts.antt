@@ -2,7 +2,6 @@
 -- about any order, and row 20 shows that the claim needs its hypothesis. The steps are computed. Beside them, lists of
 -- requests of all kinds, and fetches of any addresses, which may share their units. Assumes nothing.
 use mathlib.Core.Path.{_≡_, refl, sym, ap, subst, _∙_}
-use mathlib.Core.Bool.{true, false}
 use mathlib.Core.Logic.{_≢_, inl, inr}
 use mathlib.Core.List.{List, [], _∷_}
 use Prim.Native.Nat.{ℕ}
@@ -12,12 +11,10 @@ use lib.ListN.{length, getD, set, replicate, length-set}
 use lib.Seq.{getD-set-same, set-set}
 use borrow.Author.Tests.{ne-eqb}
 use Rattle.machine.specs.declared.Settings.{Settings}
-use Rattle.machine.specs.declared.Processor.{Processor}
-use Rattle.machine.specs.declared.Request.{Request}
 use Rattle.machine.specs.declared.Request.the-variants.{Access, Key, Prefix}
 use Rattle.machine.specs.declared.KeyInstruction.the-variants.{Ssk, Iske}
 use Rattle.machine.specs.declared.PrefixInstruction.the-variants.{SetPrefix}
-use Rattle.machine.specs.declared.AccessKind.the-variants.{Fetch, Store}
+use Rattle.machine.specs.declared.AccessKind.the-variants.{Fetch}
 use Rattle.machine.specs.Lists.{written}
 use Rattle.machine.specs.Key.{keyOf, afterStore, joined}
 use Rattle.machine.specs.Answers.{line, firstOf, firstByte, firstLine}
@@ -31,24 +28,11 @@ use Rattle.machine.specs.Lists.{anyBelow}
 use Rattle.turns.specs.Units.{names}
 use Rattle.machine.specs.Turns.{State, Turn, Given, next, given}
 use Rattle.turns.specs.TwoLists.{Order, done, first, second, End, run, Every, Unnamed, Apart}
+use Rattle.turns.proofs.Starts.{settings, processor, memory, store, asked}
 use Rattle.turns.proofs.TwoLists.{any-order}
 
--- 2K units, extensions present; prefixes 0 and 4096, PSW key 0, supervisor, bit 3 off; zero keys
-abbrev settings : Settings
-settings = record { «four_k» = false; extensions = true }
-
-abbrev processor : ℕ → Processor
-processor prefix = record { «psw_key» = 0; problem = false; «low_protection» = false; «key_control» = false; prefix = prefix; code = 0 }
-
-abbrev start : List ℕ → State
-start storage = record { storage = storage; keys = replicate 32 0; processors = processor 0 ∷ processor 4096 ∷ [] }
-
--- processor n stores one byte at a real address
-abbrev store : ℕ → ℕ → ℕ → Turn
-store n real b = record { processorNumber = n; request = Access Store real 1; buffer = b ∷ [] }
-
 abbrev ending : List ℕ → {xs ys : List Turn} → Order xs ys → End State Given
-ending storage o = run (next settings) (given settings) (start storage) o
+ending storage o = run (next settings) (given settings) (memory storage) o
 
 module _ (storage : List ℕ) (h : length storage ≡ 65536) where
   -- 19: both store at real 0, twice each. Processor 0 names unit 0 only and processor 1 unit 2 only, and all orders agree
@@ -59,25 +43,22 @@ module _ (storage : List ℕ) (h : length storage ≡ 65536) where
     abbrev seconds : List Turn
     seconds = store 1 0 c ∷ store 1 0 d ∷ []
 
-    pub disjoint-units : (u : ℕ) → Apart settings (start storage) firsts seconds u
+    pub disjoint-units : (u : ℕ) → Apart settings (memory storage) firsts seconds u
     unfolding written afterStore line firstOf firstByte firstLine prefixed permitted lowProtected addressing protection
         beforeProtection verdict storageLeft bufferLeft keysRecorded completed performed step served pairStep anyBelow names
     disjoint-units u = go (ℕ-discrete 0 u)
       where
-        go : Dec (0 ≡ u) → Apart settings (start storage) firsts seconds u
+        go : Dec (0 ≡ u) → Apart settings (memory storage) firsts seconds u
         go (yes e) = inr (inl (rw (h, ← e), (rw (h, length-set storage 4096 c, h, ← e), tt)))
         go (no e) = inl (rw (h, ne-eqb 0 u e), (rw (h, length-set storage 0 a, h, ne-eqb 0 u e), tt))
 
     pub orders-agree : (o p : Order firsts seconds) → ending storage o ≡ ending storage p
-    orders-agree = any-order settings (start storage) firsts seconds (inl refl, (inl refl, tt)) (inl refl, (inl refl, tt)) disjoint-units
+    orders-agree = any-order settings (memory storage) firsts seconds (inl refl, (inl refl, tt)) (inl refl, (inl refl, tt)) disjoint-units
 
   -- Lists of requests of all kinds: processor 0 sets its prefix to 8192 and then stores at real 0, which is absolute 8192; it sets a key; an
   -- access of length 0 is refused; and a request carries the number 2. Processor 1 stores at real 0, absolute 4096; it inserts a key of a block;
   -- and a request carries the number 2. They name units 4 and 6, and units 2, 8 and 9
   module _ (a b : ℕ) where
-    abbrev asked : ℕ → Request → Turn
-    asked n r = record { processorNumber = n; request = r; buffer = [] }
-
     abbrev last : List Turn
     last = asked 0 (Key (Ssk 0x36 0x3000)) ∷ asked 0 (Access Fetch 0 0) ∷ store 2 0 a ∷ []
 
@@ -94,7 +75,7 @@ module _ (storage : List ℕ) (h : length storage ≡ 65536) where
     abbrev stored : State
     stored = record { storage = set storage 8192 a; keys = set (replicate 32 0) 4 6; processors = processor 8192 ∷ processor 4096 ∷ [] }
 
-    prefix-set : next settings (start storage) (asked 0 (Prefix (SetPrefix 8192))) ≡ withPrefix8192
+    prefix-set : next settings (memory storage) (asked 0 (Prefix (SetPrefix 8192))) ≡ withPrefix8192
     unfolding line firstOf firstLine addressing protection beforeProtection verdict completed performed step served pairStep
     prefix-set = rw h
 
@@ -103,13 +84,13 @@ module _ (storage : List ℕ) (h : length storage ≡ 65536) where
         protection beforeProtection verdict storageLeft bufferLeft keysRecorded completed performed step served pairStep
     byte-stored = rw h
 
-    pub mixed-apart : (u : ℕ) → Apart settings (start storage) mixed others u
+    pub mixed-apart : (u : ℕ) → Apart settings (memory storage) mixed others u
     unfolding written keyOf afterStore line firstOf firstByte firstLine prefixed permitted lowProtected wordGiven keysLeft codeLeft
         addressing protection beforeProtection verdict storageLeft bufferLeft keysRecorded completed performed step
         served pairStep anyBelow names joined
     mixed-apart u = go (ℕ-discrete 4 u) (ℕ-discrete 6 u)
       where
-        go : Dec (4 ≡ u) → Dec (6 ≡ u) → Apart settings (start storage) mixed others u
+        go : Dec (4 ≡ u) → Dec (6 ≡ u) → Apart settings (memory storage) mixed others u
         go (yes e) d = inr (inl (rw (h, ← e), (rw (h, length-set storage 4096 b, h, ← e), (refl, tt))))
         go (no d) (yes e) = inr (inl (rw (h, ← e), (rw (h, length-set storage 4096 b, h, ← e), (refl, tt))))
         go (no d) (no e) = inl (
@@ -127,7 +108,7 @@ module _ (storage : List ℕ) (h : length storage ≡ 65536) where
 
     pub mixed-agree : (o p : Order mixed others) → ending storage o ≡ ending storage p
     mixed-agree =
-        any-order settings (start storage) mixed others (inl refl, (inl refl, (inl refl, (inl refl, (inr (omega arith), tt)))))
+        any-order settings (memory storage) mixed others (inl refl, (inl refl, (inl refl, (inl refl, (inr (omega arith), tt)))))
         (inl refl, (inl refl, (inr (omega arith), tt))) mixed-apart
 
   -- 20: different bytes stored at real 0 by the first and at real 4096 by the second. Both are absolute 0, and the order matters
@@ -149,9 +130,9 @@ module _ (storage : List ℕ) (h : length storage ≡ 65536) where
     pub order-matters : ending storage secondLast .state .storage ≢ ending storage firstLast .state .storage
     order-matters e = different (sym (bytes-left .1) ∙ ap (λ l. getD l 0 0) (sym e) ∙ bytes-left .0)
 
-    pub shared-unit : ¬ ((u : ℕ) → Apart settings (start storage) (store 0 0 a ∷ []) (store 1 4096 b ∷ []) u)
+    pub shared-unit : ¬ ((u : ℕ) → Apart settings (memory storage) (store 0 0 a ∷ []) (store 1 4096 b ∷ []) u)
     shared-unit apart =
-        order-matters (ap (λ e. e .state .storage) (any-order settings (start storage) _ _ (inl refl, tt) (inl refl, tt) apart secondLast firstLast))
+        order-matters (ap (λ e. e .state .storage) (any-order settings (memory storage) _ _ (inl refl, tt) (inl refl, tt) apart secondLast firstLast))
 
 -- a fetch of each processor, from any start and at any addresses: what they name, they name by fetches only, and both orders agree
 module _ (s : Settings) (m : State) (real real' count count' : ℕ) (buffer buffer' : List ℕ) where

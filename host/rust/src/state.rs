@@ -20,6 +20,30 @@ pub const ACCESS_MAXIMUM: usize = 256;
 /// assert_eq!(machine.keys[1], key::REFERENCE | key::CHANGE);
 /// # Ok::<(), Refusal>(())
 /// ```
+///
+/// A clean unit is an untouched unit. Over any requests and channel programs on one machine, in
+/// any order, with the same settings and where the program itself writes neither storage nor keys
+/// between them: a unit whose change bit is zero after the last, and to which no completed SSK or
+/// SSKE was applied, holds the bytes that it held before the first. So a copy of the storage is
+/// brought up to date with the units whose change bits are on, and those to which a completed SSK
+/// or SSKE was applied, since it can set a change bit to zero after a store:
+///
+/// ```
+/// use storage_unit::{Machine, Refusal, Settings, key};
+///
+/// let mut machine = Machine::new(Settings::default(), 65_536)?;
+/// let mut copy = machine.storage.to_vec();
+/// machine.cpu(0).store(2046, b"ABCD")?;
+/// machine.cpu(1).store(40_000, b"EFGH")?;
+///
+/// let size = machine.settings.key_unit();
+/// for unit in (0..machine.keys.len()).filter(|&unit| machine.keys[unit] & key::CHANGE != 0) {
+///     let bytes = unit * size..(unit + 1) * size;
+///     copy[bytes.clone()].copy_from_slice(&machine.storage[bytes]);
+/// }
+/// assert!(copy == machine.storage);
+/// # Ok::<(), Refusal>(())
+/// ```
 pub mod key {
     /// The four access-control bits, which are compared with the PSW key.
     pub const ACCESS_CONTROL: u8 = 0xF0;

@@ -5,10 +5,10 @@
 -- Assumes nothing.
 use Prim.Native.Nat.{ℕ, _+_, _<_}
 use mathlib.Core.Path.{_≡_, refl, sym, ap, _∙_}
-use mathlib.Core.Bool.{Bool, true, false, _&&_}
+use mathlib.Core.Bool.{Bool, true, false}
 use mathlib.Core.Logic.{_≢_, _⊎_, inl, inr, ⊎-elim}
 use mathlib.Core.List.{List, [], _∷_}
-use mathlib.Core.Option.{none}
+use mathlib.Core.Option.{none, some}
 use native.Mathlib.Decide.{decLt}
 use native.Mathlib.Omega.{arith}
 use lib.ListN.{length, getD, List·getD-eq-default}
@@ -50,7 +50,7 @@ use Rattle.machine.proofs.Pairs.{by-record}
 use Rattle.machine.proofs.ChannelSteps.{operationFound, CcwOutcome, unfetched, unread, unobeyed, untransferred, obeyedWhole, ccw-outcome, fetchable}
 use Rattle.turns.specs.Units.{names}
 use Rattle.turns.specs.ThreeLists.{requests, between, underWay, found}
-use Rattle.turns.specs.CleanUnits.{changeBit, setsKey, hasUnit, keySet, RecordsChanges, EveryTurn}
+use Rattle.turns.specs.CleanUnits.{changeBit, appliedTo, keySet, RecordsChanges, EveryTurn}
 use Rattle.turns.proofs.Named.{unnamed-at}
 
 -- the change bits that are on stay on
@@ -122,14 +122,14 @@ module _ (s : Settings) where
   abbrev keysSet : List ℕ → Processor → KeyInstruction → ℕ → List ℕ
   keysSet keys p i v = written keys (λ j. firstUnit s p i + j) (λ j. v) (keyCount (twoKeys s i))
 
-  set-records : (storage keys : List ℕ) (p : Processor) (i : KeyInstruction) (v : ℕ)
-      → RecordsChanges s storage keys storage (keysSet keys p i v) (names Clear s p (Key i))
-  set-records storage keys p i v =
+  set-records : (storage keys : List ℕ) (p : Processor) (i : KeyInstruction) (v : ℕ) (sets : ℕ → Bool)
+      → ((u : ℕ) → names Clear s p (Key i) u ≡ true → sets u ≡ true) → RecordsChanges s storage keys storage (keysSet keys p i v) sets
+  set-records storage keys p i v sets of-units =
       record { changed-on = λ a n. absurd (n refl); off-by-set = λ u on off. by u on off (tested (names Clear s p (Key i) u)); same-length = refl }
     where
       by : (u : ℕ) → changeBit keys u ≡ 1 → changeBit (keysSet keys p i v) u ≡ 0
-          → (names Clear s p (Key i) u ≡ true) ⊎ (names Clear s p (Key i) u ≡ false) → names Clear s p (Key i) u ≡ true
-      by u on off (inl e) = e
+          → (names Clear s p (Key i) u ≡ true) ⊎ (names Clear s p (Key i) u ≡ false) → sets u ≡ true
+      by u on off (inl e) = of-units u e
       by u on off (inr e) =
           let same = ap change (written-elsewhere keys (λ j. firstUnit s p i + j) (λ j. v) (keyCount (twoKeys s i)) u (unnamed-at s p (Key i) u e)) in
           absurd (omega (arith, same))
@@ -139,12 +139,9 @@ module _ (s : Settings) where
   reset-records storage keys place n sets = storage-stays storage keys _ sets (marks-stay-on keys place afterReset n reset-stays-on)
 
   module _ (storage keys : List ℕ) (p : Processor) (buffer : List ℕ) where
-    -- the request r is a completed SSK or SSKE one of whose units is u, its outcome being o; and the law of it
-    abbrev sets : Request → Outcome → ℕ → Bool
-    sets r o u = setsKey r && eqb (o .answer .number) 0 && names Clear s p r u
-
+    -- the law of the request r, its outcome being o
     abbrev Records : Request → Outcome → Type 0
-    Records r o = RecordsChanges s storage keys (o .storage) (o .keys) (sets r o)
+    Records r o = RecordsChanges s storage keys (o .storage) (o .keys) (appliedTo (o .answer .number) (some p) s r)
 
     completed-records : (r : Request) → verdict s (length storage) keys p r (length buffer) ≡ Clear → Records r (completed s storage keys p r buffer)
     unfolding completed storageLeft keysRecorded keysLeft
@@ -155,10 +152,10 @@ module _ (s : Settings) where
         let lines = cleared s (length storage) (length keys) p (Access Store address count) (length buffer) passed in
         stores-record storage keys (byteAddress p address) count (lines .lengths) (λ i. getD buffer i 0) _
     completed-records (Key (Isk r1 r2)) e = all-stays storage keys _
-    completed-records (Key (Ssk r1 r2)) e = set-records storage keys p (Ssk r1 r2) (keyInWord r1)
+    completed-records (Key (Ssk r1 r2)) e = set-records storage keys p (Ssk r1 r2) (keyInWord r1) _ (λ u e. cc)
     completed-records (Key (Rrb address)) e = reset-records storage keys (λ j. firstUnit s p (Rrb address) + j) _ _
     completed-records (Key (Iske r1 r2)) e = all-stays storage keys _
-    completed-records (Key (Sske r1 r2)) e = set-records storage keys p (Sske r1 r2) (keyInWord r1)
+    completed-records (Key (Sske r1 r2)) e = set-records storage keys p (Sske r1 r2) (keyInWord r1) _ (λ u e. cc)
     completed-records (Key (Rrbe r2)) e = reset-records storage keys (λ j. firstUnit s p (Rrbe r2) + j) _ _
     completed-records (Prefix i) e = all-stays storage keys _
 
@@ -169,8 +166,8 @@ module _ (s : Settings) where
       → RecordsChanges s (m .storage) (m .keys) (next s m t .storage) (next s m t .keys) (keySet s m t)
   request-records m t =
       by-record s (m .storage) (m .keys) (m .processors) (t .processorNumber) (t .request) (t .buffer)
-      (λ o. RecordsChanges s (m .storage) (m .keys) (o .storage) (o .keys) (λ u.
-      setsKey (t .request) && eqb (o .answer .number) 0 && hasUnit (recordOf (m .processors) (t .processorNumber)) s (t .request) u))
+      (λ o. RecordsChanges s (m .storage) (m .keys) (o .storage) (o .keys)
+      (appliedTo (o .answer .number) (recordOf (m .processors) (t .processorNumber)) s (t .request)))
       (λ e. all-stays (m .storage) (m .keys) _)
       (λ p e. rw e (step-records (m .storage) (m .keys) p (t .buffer) (t .request)))
 

@@ -3,10 +3,11 @@
 -- and the change bit is zero. And the exception is no wider: rows of requests, among them a refused SSK. The steps are computed.
 -- Assumes nothing.
 use Prim.Native.Nat.{ℕ}
-use mathlib.Core.Path.{_≡_, refl, sym, _∙_}
+use mathlib.Core.Path.{_≡_, refl, sym, ap, _∙_}
 use mathlib.Core.Bool.{Bool, true, false}
 use mathlib.Core.Logic.{_≢_}
 use mathlib.Core.List.{List, [], _∷_, map}
+use mathlib.Core.Option.{some}
 use native.Mathlib.Omega.{arith}
 use lib.ListN.{length, getD, set, replicate, length-set, length-replicate, getD-replicate}
 use lib.Seq.{getD-set-same, getD-set-other}
@@ -28,13 +29,13 @@ use Rattle.machine.specs.Step.{storageLeft, bufferLeft, keysRecorded, completed
 use Rattle.machine.specs.Pair.{served, pairStep}
 use Rattle.machine.specs.Channel.{ccwAt, operationOf, firstRefusal, beforeFetching, rangeForbidden, rangeRecorded, bytesMoved, beforeTransfer}
 use Rattle.machine.specs.Channel.{withCcwFetched, carriedOut, obeyed, nextCcw, channelStep}
-use Rattle.machine.specs.Turns.{State, Turn}
+use Rattle.machine.specs.Turns.{State, Turn, given}
 use Rattle.machine.proofs.UnitBytes.{other-unit-bytes}
 use Rattle.turns.specs.Units.{names}
 use Rattle.turns.specs.Parties.{Joint, run}
 use Rattle.turns.specs.ThreeLists.{ChannelTurn, ChannelGiven, Work, between, underWay, Party, processor0, processor1, channel, parties, start}
-use Rattle.turns.specs.CleanUnits.{changeBit, keySet, turnSetsKey, NoneApplied}
-use Rattle.turns.proofs.Starts.{settings, memory, store, asked, reading, readOne}
+use Rattle.turns.specs.CleanUnits.{changeBit, hasUnit, appliedTo, keySet, turnSetsKey, NoneApplied}
+use Rattle.turns.proofs.Starts.{settings, processor, memory, store, asked, reading, readOne}
 use Rattle.turns.proofs.CleanUnits.{clean-is-untouched}
 
 -- Processor 0 stores a byte into unit 1 and then sets its key: to zero, by SSK, or by SSKE of the block of units 0 and 1
@@ -109,13 +110,21 @@ module _ (storage : List ℕ) (h : length storage ≡ 65536) where
         beforeProtection verdict storageLeft bufferLeft keysRecorded keysLeft completed performed step served pairStep
     clean-by-sske = let two = length-set storage 2048 a in differs (afterSet (Sske 0 0)) (rw (h, two, h)) (rw (h, two, h))
 
-  -- A refused SSK is no exception: bit 28 of R2 is on, so it is refused with 6, and unit 1, which R2 designates, is untouched by the claim
-  abbrev refusedSet : Joint State Work Party
-  refusedSet = start (memory storage) (asked 0 (Key (Ssk 0 2056)) ∷ store 0 0 7 ∷ []) [] []
+  -- A refused SSK is no exception. This one designates unit 1 and has bit 28 of R2 on: it is refused with 6, and the claim speaks of unit 1
+  abbrev refusedSet : Turn
+  refusedSet = asked 0 (Key (Ssk 0 2056))
 
-  pub refused-no-exception : NoneApplied settings refusedSet (processor0 ∷ processor0 ∷ []) 1
-  unfolding line firstOf firstLine addressing protection beforeProtection verdict performed step served pairStep
-  refused-no-exception = (rw h, (refl, tt))
+  abbrev refusedThenStored : Joint State Work Party
+  refusedThenStored = start (memory storage) (refusedSet ∷ store 0 0 7 ∷ []) [] []
+
+  pub refused-with-6 : (given settings (memory storage) refusedSet .answer .number ≡ 6)
+      × (hasUnit (some (processor 0)) settings (refusedSet .request) 1 ≡ true)
+  unfolding line firstOf firstLine addressing protection beforeProtection verdict performed step served pairStep anyBelow names prefixed
+  refused-with-6 = (rw h, refl)
+
+  pub refused-no-exception : NoneApplied settings refusedThenStored (processor0 ∷ processor0 ∷ []) 1
+  unfolding anyBelow names prefixed
+  refused-no-exception = (ap (λ n. appliedTo n (some (processor 0)) settings (refusedSet .request) 1) (refused-with-6 .0), (refl, tt))
 
   -- Which requests are the exception for a unit: a completed SSK for the unit that it designates, by the prefix in force, an SSKE for both units of its
   -- block. No SSK that is refused is: with 6, 5 or 65; and no other request

@@ -49,12 +49,13 @@ abbrev pub hasUnit : Option Processor → Settings → Request → ℕ → Bool
 hasUnit none s r u = false
 hasUnit (some p) s r u = names Clear s p r u
 
--- a request that finds the state m is a completed SSK or SSKE one of whose units is u, whatever the key that it sets
+-- a request with this number in its answer is a completed SSK or SSKE one of whose units is u, whatever the key that it sets
+abbrev pub appliedTo : (number : ℕ) → Option Processor → Settings → Request → ℕ → Bool
+appliedTo number found s r u = setsKey r && eqb number 0 && hasUnit found s r u
+
+-- the same of a request that finds the state m
 abbrev pub keySet : Settings → State → Turn → ℕ → Bool
-keySet s m t u =
-    setsKey (t .request)
-    && eqb (given s m t .answer .number) 0
-    && hasUnit (recordOf (m .processors) (t .processorNumber)) s (t .request) u
+keySet s m t u = appliedTo (given s m t .answer .number) (recordOf (m .processors) (t .processorNumber)) s (t .request) u
 
 -- a turn of a party is such a request: no turn of the channel is, and none of a list at its end
 abbrev pub turnSetsKey : Settings → State → Work → ℕ → Bool

@@ -6,17 +6,17 @@ use Prim.Native.Nat.{ℕ}
 use mathlib.Core.Path.{_≡_, refl, sym, ap, _∙_}
 use mathlib.Core.Bool.{Bool, true, false}
 use mathlib.Core.Logic.{_≢_}
-use mathlib.Core.List.{List, [], _∷_, map}
+use mathlib.Core.List.{List, [], _∷_, map, foldl}
 use mathlib.Core.Option.{some}
 use native.Mathlib.Omega.{arith}
 use lib.ListN.{length, getD, set, replicate, length-set, length-replicate, getD-replicate}
 use lib.Seq.{getD-set-same, getD-set-other}
 use Rattle.machine.specs.declared.Settings.{Settings}
-use Rattle.machine.specs.declared.Request.the-variants.{Key, Prefix}
+use Rattle.machine.specs.declared.AccessKind.the-variants.{Fetch}
+use Rattle.machine.specs.declared.Request.the-variants.{Access, Key, Prefix}
 use Rattle.machine.specs.declared.KeyInstruction.{KeyInstruction}
 use Rattle.machine.specs.declared.KeyInstruction.the-variants.{Isk, Ssk, Rrb, Iske, Sske, Rrbe}
 use Rattle.machine.specs.declared.PrefixInstruction.the-variants.{SetPrefix}
-use Rattle.machine.specs.declared.channel.ChannelProgress.{ChannelProgress}
 use Rattle.machine.specs.Lists.{written, anyBelow}
 use Rattle.machine.specs.Numbers.{unitBytes}
 use Rattle.machine.specs.Key.{afterFetch, afterStore}
@@ -28,15 +28,19 @@ use Rattle.machine.specs.Table.{addressing, protection, beforeProtection, verdi
 use Rattle.machine.specs.Step.{storageLeft, bufferLeft, keysRecorded, completed, performed, step}
 use Rattle.machine.specs.Pair.{served, pairStep}
 use Rattle.machine.specs.Channel.{ccwAt, operationOf, firstRefusal, beforeFetching, rangeForbidden, rangeRecorded, bytesMoved, beforeTransfer}
-use Rattle.machine.specs.Channel.{withCcwFetched, carriedOut, obeyed, nextCcw, channelStep}
+use Rattle.machine.specs.Channel.{withCcwFetched, carriedOut, obeyed, nextCcw, channelStep, steps, channelRun}
 use Rattle.machine.specs.Turns.{State, Turn, given}
 use Rattle.machine.proofs.UnitBytes.{other-unit-bytes}
 use Rattle.turns.specs.Units.{names}
 use Rattle.turns.specs.Parties.{Joint, run}
-use Rattle.turns.specs.ThreeLists.{ChannelTurn, ChannelGiven, Work, between, underWay, Party, processor0, processor1, channel, parties, start}
-use Rattle.turns.specs.CleanUnits.{changeBit, hasUnit, appliedTo, keySet, turnSetsKey, NoneApplied}
+use Rattle.turns.specs.ThreeLists.{Work, Party, processor0, processor1, channel, parties, start}
+use Rattle.turns.specs.CleanUnits.{changeBit, hasUnit, appliedTo, keySet, NoneApplied, ofProcessor, ofChannel, nextAny}
 use Rattle.turns.proofs.Starts.{settings, processor, memory, store, asked, reading, readOne}
 use Rattle.turns.proofs.CleanUnits.{clean-is-untouched}
+
+-- the change bit is bit 6 of a key alone, and where there is no key it is zero
+pub change-bits : map (changeBit (253 ∷ 2 ∷ [])) (0 ∷ 1 ∷ 2 ∷ []) ≡ 0 ∷ 1 ∷ 0 ∷ []
+change-bits = refl
 
 -- Processor 0 stores a byte into unit 1 and then sets its key: to zero, by SSK, or by SSKE of the block of units 0 and 1
 abbrev storedAndSet : List ℕ → ℕ → KeyInstruction → Joint State Work Party
@@ -61,6 +65,18 @@ module _ (storage : List ℕ) (h : length storage ≡ 65536) where
         beforeProtection verdict storageLeft bufferLeft keysRecorded completed performed step served pairStep anyBelow
         channelStep nextCcw beforeFetching firstRefusal rangeForbidden obeyed operationOf beforeTransfer withCcwFetched carriedOut rangeRecorded bytesMoved
     left =
+        let two = length-set storage 12288 c in
+        let three = length-set (set storage 12288 c) 2048 a in
+        (rw (h, holds, two, h, three, two, h), rw (h, holds, two, h, three, two, h))
+
+    -- and so do the same requests whole one after another
+    pub list-leaves : let n = foldl (nextAny settings) (memory storage)
+        (ofChannel (readOne c) ∷ ofProcessor (store 0 2048 a) ∷ ofProcessor (store 1 0 b) ∷ []) in
+        (n .storage ≡ after .storage) × (n .keys ≡ after .keys)
+    unfolding written afterFetch afterStore line firstOf firstByte firstLine prefixed permitted lowProtected addressing protection
+        beforeProtection verdict storageLeft bufferLeft keysRecorded completed performed step served pairStep anyBelow channelRun steps
+        channelStep nextCcw beforeFetching firstRefusal rangeForbidden obeyed operationOf beforeTransfer withCcwFetched carriedOut rangeRecorded bytesMoved
+    list-leaves =
         let two = length-set storage 12288 c in
         let three = length-set (set storage 12288 c) 2048 a in
         (rw (h, holds, two, h, three, two, h), rw (h, holds, two, h, three, two, h))
@@ -126,6 +142,20 @@ module _ (storage : List ℕ) (h : length storage ≡ 65536) where
   unfolding anyBelow names prefixed
   refused-no-exception = (ap (λ n. appliedTo n (some (processor 0)) settings (refusedSet .request) 1) (refused-with-6 .0), (refl, tt))
 
+  -- and unit 1 is clean at the end
+  pub refused-clean : changeBit (run (parties settings) refusedThenStored (processor0 ∷ processor0 ∷ []) .shared .keys) 1 ≡ 0
+  unfolding written afterStore line firstOf firstByte firstLine prefixed permitted lowProtected addressing protection
+      beforeProtection verdict storageLeft bufferLeft keysRecorded completed performed step served pairStep
+  refused-clean = rw (h, h)
+
+  -- Nor is a completed SSK of another unit, nor one of this unit that stands in the list and whose turn does not come
+  abbrev setBeside : Joint State Work Party
+  setBeside = start (memory storage) (asked 0 (Key (Ssk 2 4096)) ∷ store 0 0 7 ∷ asked 0 (Key (Ssk 0 2048)) ∷ []) [] []
+
+  pub beside-no-exception : NoneApplied settings setBeside (processor0 ∷ processor0 ∷ []) 1
+  unfolding line firstOf firstLine addressing protection beforeProtection verdict completed performed step served pairStep anyBelow names prefixed
+  beside-no-exception = (rw h, (refl, tt))
+
   -- Which requests are the exception for a unit: a completed SSK for the unit that it designates, by the prefix in force, an SSKE for both units of its
   -- block. No SSK that is refused is: with 6, 5 or 65; and no other request
   abbrev applied : State → List (Turn × ℕ) → List Bool
@@ -158,18 +188,13 @@ module _ (storage : List ℕ) (h : length storage ≡ 65536) where
       ∷ asked 0 (Key (Iske 0 0))
       ∷ asked 0 (Key (Rrbe 0))
       ∷ asked 0 (Prefix (SetPrefix 0))
+      ∷ record { processorNumber = 0; request = Access Fetch 2048 1; buffer = 0 ∷ [] }
       ∷ store 0 2048 7
       ∷ []
 
-  pub applied-by-no-other : map (λ t. keySet settings (memory storage) t 1) othersOfUnit1 ≡ replicate 9 false
+  pub applied-by-no-other : map (λ t. keySet settings (memory storage) t 1) othersOfUnit1 ≡ replicate 10 false
   unfolding line firstOf firstLine addressing protection beforeProtection verdict completed performed step served pairStep anyBelow names prefixed
   applied-by-no-other = rw h
-
--- No turn of the channel is the exception, in whatever request it is
-pub channel-no-exception : (s : Settings) (m : State) (t : ChannelTurn) (room : List ℕ) (g : ChannelProgress) (ts : List ChannelTurn)
-    (gs : List ChannelGiven) (u : ℕ)
-    → (turnSetsKey s m (between ts gs) u ≡ false) × (turnSetsKey s m (underWay t room g ts gs) u ≡ false)
-channel-no-exception s m t room g ts gs u = (refl, refl)
 
 -- So the claim without its exception does not hold
 pub exception-needed : ¬ ((s : Settings) (m : Joint State Work Party) (o : List Party) (u : ℕ)

@@ -1,12 +1,13 @@
 -- A clean block is an untouched block. Over steps of any kind that keep the law of a single turn: a change bit that is on stays on where no step sets
 -- the key. So a byte that some step changes has its change bit on from then on, to the end; where the bit is zero at the end, no step changed it.
--- The claim is this law of turns; of requests one after another it is the same law, where a request of the channel is a sequence of steps itself.
+-- The claim is this law (`untouched`) of turns; of requests and calls one after another it is the same law, where a request of the channel is a
+-- sequence of steps itself.
 -- Assumes nothing.
 use Prim.Native.Nat.{ℕ, zero, suc, _+_}
 use mathlib.Core.Path.{_≡_, refl, sym, _∙_}
 use mathlib.Core.Bool.{Bool, true, false, cond}
 use mathlib.Core.Logic.{_≢_}
-use mathlib.Core.List.{List, [], _∷_}
+use mathlib.Core.List.{List, [], _∷_, foldl}
 use native.Mathlib.Decide.{ℕ-discrete}
 use native.Mathlib.Omega.{arith}
 use lib.ListN.{length, getD, replicate}
@@ -14,15 +15,15 @@ use Rattle.machine.specs.declared.Settings.{Settings}
 use Rattle.machine.specs.declared.channel.ChannelRequest.{ChannelRequest}
 use Rattle.machine.specs.Numbers.{unitOf, unitBytes}
 use Rattle.machine.specs.Channel.{Channel, channel, channelStep, begun, steps, channelRun}
-use Rattle.machine.specs.Turns.{State, Turn, next}
+use Rattle.machine.specs.Turns.{State, next}
 use Rattle.machine.proofs.Verdicts.{not-both}
 use Rattle.machine.proofs.UnitBytes.{same-unit-bytes}
 use Rattle.turns.specs.Parties.{Joint, turn, run}
 use Rattle.turns.specs.ThreeLists.{ChannelTurn, Work, Party, parties}
 use Rattle.turns.specs.TwoLists.{Every}
 use Rattle.turns.specs.CleanUnits.{changeBit, keySet, turnSetsKey, RecordsChanges, NoneApplied, CleanIsUntouched}
-use Rattle.turns.specs.CleanUnits.{afterAll, CleanAfterRequests, CleanAfterChannel, AnyRequest, ofProcessor, ofChannel, nextAny, anySetsKey}
-use Rattle.turns.specs.CleanUnits.{CleanAfterList}
+use Rattle.turns.specs.CleanUnits.{CleanAfterRequests, CleanAfterChannel, AnyRequest, ofProcessor, ofChannel, nextAny, anySetsKey}
+use Rattle.turns.specs.CleanUnits.{CleanAfterList, Call, foundBy, nextCall, CleanAfterCalls}
 use Rattle.turns.proofs.ChangeBits.{request-records, channel-step-records, every-turn}
 
 module _ {S A : Type 0} (s : Settings) (after : S → A → S) (storageOf keysOf : S → List ℕ) (sets : S → A → ℕ → Bool)
@@ -32,7 +33,7 @@ module _ {S A : Type 0} (s : Settings) (after : S → A → S) (storageOf keysOf
   NoneSets u m xs = Every after (λ n x. sets n x u ≡ false) m xs
 
   -- a change bit that is on stays on; it is zero or one
-  stays-on : (m : S) (xs : List A) (u : ℕ) → changeBit (keysOf m) u ≡ 1 → NoneSets u m xs → changeBit (keysOf (afterAll after m xs)) u ≡ 1
+  stays-on : (m : S) (xs : List A) (u : ℕ) → changeBit (keysOf m) u ≡ 1 → NoneSets u m xs → changeBit (keysOf (foldl after m xs)) u ≡ 1
   stays-on m [] u on none = on
   stays-on m (x ∷ xs) u on (here, further) = stays-on (after m x) xs u (still (ℕ-discrete (changeBit (keysOf (after m x)) u) 0)) further
     where
@@ -40,8 +41,8 @@ module _ {S A : Type 0} (s : Settings) (after : S → A → S) (storageOf keysOf
       still (yes off) = absurd (not-both (law m x .off-by-set u on off) here)
       still (no n) = omega arith
 
-  same-byte : (m : S) (xs : List A) (a : ℕ) → changeBit (keysOf (afterAll after m xs)) (unitOf s a) ≡ 0 → NoneSets (unitOf s a) m xs
-      → getD (storageOf (afterAll after m xs)) a 0 ≡ getD (storageOf m) a 0
+  same-byte : (m : S) (xs : List A) (a : ℕ) → changeBit (keysOf (foldl after m xs)) (unitOf s a) ≡ 0 → NoneSets (unitOf s a) m xs
+      → getD (storageOf (foldl after m xs)) a 0 ≡ getD (storageOf m) a 0
   same-byte m [] a clean none = refl
   same-byte m (x ∷ xs) a clean (here, further) =
       same-byte (after m x) xs a clean further ∙ first (ℕ-discrete (getD (storageOf (after m x)) a 0) (getD (storageOf m) a 0))
@@ -50,32 +51,32 @@ module _ {S A : Type 0} (s : Settings) (after : S → A → S) (storageOf keysOf
       first (yes e) = e
       first (no changed) = absurd (omega (arith, stays-on (after m x) xs (unitOf s a) (law m x .changed-on a changed) further))
 
-  lengths : (m : S) (xs : List A) → length (storageOf (afterAll after m xs)) ≡ length (storageOf m)
+  lengths : (m : S) (xs : List A) → length (storageOf (foldl after m xs)) ≡ length (storageOf m)
   lengths m [] = refl
   lengths m (x ∷ xs) = lengths (after m x) xs ∙ law m x .same-length
 
-  untouched : (m : S) (xs : List A) (u : ℕ) → changeBit (keysOf (afterAll after m xs)) u ≡ 0 → NoneSets u m xs
-      → unitBytes s (storageOf (afterAll after m xs)) u ≡ unitBytes s (storageOf m) u
+  pub untouched : (m : S) (xs : List A) (u : ℕ) → changeBit (keysOf (foldl after m xs)) u ≡ 0 → NoneSets u m xs
+      → unitBytes s (storageOf (foldl after m xs)) u ≡ unitBytes s (storageOf m) u
   untouched m xs u clean none =
-      same-unit-bytes s (storageOf (afterAll after m xs)) (storageOf m) u (lengths m xs) (λ a e. same-byte m xs a (rw e clean) (rw e none))
+      same-unit-bytes s (storageOf (foldl after m xs)) (storageOf m) u (lengths m xs) (λ a e. same-byte m xs a (rw e clean) (rw e none))
 
   -- where no step sets a key, the law holds of the whole
   all-record : (m : S) (xs : List A) → ((u : ℕ) → NoneSets u m xs)
-      → RecordsChanges s (storageOf m) (keysOf m) (storageOf (afterAll after m xs)) (keysOf (afterAll after m xs)) (λ u. false)
+      → RecordsChanges s (storageOf m) (keysOf m) (storageOf (foldl after m xs)) (keysOf (foldl after m xs)) (λ u. false)
   all-record m xs none =
       record {
-        changed-on = λ a changed. on a changed (ℕ-discrete (changeBit (keysOf (afterAll after m xs)) (unitOf s a)) 0);
+        changed-on = λ a changed. on a changed (ℕ-discrete (changeBit (keysOf (foldl after m xs)) (unitOf s a)) 0);
         off-by-set = λ u on off. absurd (omega (arith, stays-on m xs u on (none u)));
         same-length = lengths m xs;
       }
     where
-      on : (a : ℕ) → getD (storageOf (afterAll after m xs)) a 0 ≢ getD (storageOf m) a 0
-          → Dec (changeBit (keysOf (afterAll after m xs)) (unitOf s a) ≡ 0) → changeBit (keysOf (afterAll after m xs)) (unitOf s a) ≡ 1
+      on : (a : ℕ) → getD (storageOf (foldl after m xs)) a 0 ≢ getD (storageOf m) a 0
+          → Dec (changeBit (keysOf (foldl after m xs)) (unitOf s a) ≡ 0) → changeBit (keysOf (foldl after m xs)) (unitOf s a) ≡ 1
       on a changed (yes clean) = absurd (changed (same-byte m xs a clean (none (unitOf s a))))
       on a changed (no n) = omega arith
 
 -- turns of all parties
-run-after : (s : Settings) (m : Joint State Work Party) (o : List Party) → run (parties s) m o ≡ afterAll (turn (parties s)) m o
+run-after : (s : Settings) (m : Joint State Work Party) (o : List Party) → run (parties s) m o ≡ foldl (turn (parties s)) m o
 run-after s m [] = refl
 run-after s m (i ∷ o) = run-after s (turn (parties s) m i) o
 
@@ -112,7 +113,7 @@ module _ (s : Settings) (q : ChannelRequest) (fromDevice : List ℕ) where
   abbrev stepOf : Channel → Unit {0} → Channel
   stepOf c x = channelStep s q fromDevice c
 
-  steps-after : (n : ℕ) (c : Channel) → steps n s q fromDevice c ≡ afterAll stepOf c (replicate n tt)
+  steps-after : (n : ℕ) (c : Channel) → steps n s q fromDevice c ≡ foldl stepOf c (replicate n tt)
   unfolding steps
   steps-after zero c = refl
   steps-after (suc n) c = steps-after n (channelStep s q fromDevice c)
@@ -145,6 +146,24 @@ clean-after-channel s storage keys q fromDevice room u clean =
     let m : State = record { storage = storage; keys = keys; processors = [] } in
     let t : ChannelTurn = record { request = q; fromDevice = fromDevice; room = room } in
     clean-after-list s m (ofChannel t ∷ []) u clean (refl, tt)
+
+-- calls, whatever the records and works that they find
+call-records : (s : Settings) (m : State) (c : Call) → let n = nextCall s m c in
+    RecordsChanges s (m .storage) (m .keys) (n .storage) (n .keys) (turnSetsKey s (foundBy m c) (c .work))
+call-records s m c = every-turn s (foundBy m c) (c .work)
+
+pub clean-after-calls : CleanAfterCalls
+clean-after-calls s = untouched s (nextCall s) (λ n. n .storage) (λ n. n .keys) (λ n c. turnSetsKey s (foundBy n c) (c .work)) (call-records s)
+
+-- the turns of a run as calls
+abbrev callsOf : Settings → Joint State Work Party → List Party → List Call
+callsOf s m [] = []
+callsOf s m (i ∷ o) = record { processors = m .shared .processors; work = m .own i } ∷ callsOf s (turn (parties s) m i) o
+
+pub turns-are-calls : (s : Settings) (m : Joint State Work Party) (o : List Party)
+    → foldl (nextCall s) (m .shared) (callsOf s m o) ≡ run (parties s) m o .shared
+turns-are-calls s m [] = refl
+turns-are-calls s m (i ∷ o) = turns-are-calls s (turn (parties s) m i) o
 
 -- A dump of the changed units is enough, where it has those as well to which an SSK or SSKE was applied: with each unit that it holds put in the
 -- place of the start's, every unit is that of the end

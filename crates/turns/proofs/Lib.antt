@@ -27,9 +27,10 @@ pub mod ChannelRuns
 -- When a request of a processor names units at all; what a step of the channel names, by what it answers
 pub mod Naming
 pub mod ChannelNaming
--- A clean block is an untouched block: the law of a single turn, the claim, facts
+-- A clean block is an untouched block: the law of a single turn, the claim, facts, its exception
 pub mod ChangeBits
 pub mod CleanUnits
 pub mod CleanFacts
+pub mod Exceptions
 -- The condition
 pub mod Conditions

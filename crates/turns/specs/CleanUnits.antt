@@ -5,7 +5,7 @@ use Prim.Native.Nat.{ℕ}
 use mathlib.Core.Path.{_≡_}
 use mathlib.Core.Bool.{Bool, true, false, _&&_}
 use mathlib.Core.Logic.{_≢_}
-use mathlib.Core.List.{List, [], _∷_}
+use mathlib.Core.List.{List, [], _∷_, foldl}
 use mathlib.Core.Option.{Option, none, some}
 use lib.ListN.{length, getD}
 use lib.Dec.{eqb}
@@ -90,20 +90,13 @@ CleanIsUntouched =
     → NoneApplied s m o u
     → unitBytes s (run (parties s) m o .shared .storage) u ≡ unitBytes s (m .shared .storage) u
 
--- The same of requests one after another, as a host makes them.
-
--- the state that a list leaves, its elements one after another
-abbrev pub afterAll : {S A : Type 0} → (S → A → S) → S → List A → S
-afterAll next m [] = m
-afterAll next m (x ∷ xs) = afterAll next (next m x) xs
-
--- those of a processor, each with the number that it carries
+-- The same of what a host does one after another: requests of processors, each with the number that it carries
 abbrev pub CleanAfterRequests : Type 0
 CleanAfterRequests =
     (s : Settings) (m : State) (ts : List Turn) (u : ℕ)
-    → changeBit (afterAll (next s) m ts .keys) u ≡ 0
+    → changeBit (foldl (next s) m ts .keys) u ≡ 0
     → Every (next s) (λ n t. keySet s n t u ≡ false) m ts
-    → unitBytes s (afterAll (next s) m ts .storage) u ≡ unitBytes s (m .storage) u
+    → unitBytes s (foldl (next s) m ts .storage) u ≡ unitBytes s (m .storage) u
 
 -- a whole request of the channel, which sets no key
 abbrev pub CleanAfterChannel : Type 0
@@ -130,6 +123,25 @@ anySetsKey s m (ofChannel t) u = false
 abbrev pub CleanAfterList : Type 0
 CleanAfterList =
     (s : Settings) (m : State) (rs : List AnyRequest) (u : ℕ)
-    → changeBit (afterAll (nextAny s) m rs .keys) u ≡ 0
+    → changeBit (foldl (nextAny s) m rs .keys) u ≡ 0
     → Every (nextAny s) (λ n r. anySetsKey s n r u ≡ false) m rs
-    → unitBytes s (afterAll (nextAny s) m rs .storage) u ≡ unitBytes s (m .storage) u
+    → unitBytes s (foldl (nextAny s) m rs .storage) u ≡ unitBytes s (m .storage) u
+
+-- and calls for single turns, between which the host writes what it will but storage and keys: each finds any records of processors, and is a turn of
+-- any work, such as a step of one of several programs of the channel
+pub record Call : Type 0 where
+  pub processors : List Processor
+  pub work : Work
+
+abbrev pub foundBy : State → Call → State
+foundBy m c = record { storage = m .storage; keys = m .keys; processors = c .processors }
+
+abbrev pub nextCall : Settings → State → Call → State
+nextCall s m c = stateThen s (foundBy m c) (c .work)
+
+abbrev pub CleanAfterCalls : Type 0
+CleanAfterCalls =
+    (s : Settings) (m : State) (cs : List Call) (u : ℕ)
+    → changeBit (foldl (nextCall s) m cs .keys) u ≡ 0
+    → Every (nextCall s) (λ n c. turnSetsKey s (foundBy n c) (c .work) u ≡ false) m cs
+    → unitBytes s (foldl (nextCall s) m cs .storage) u ≡ unitBytes s (m .storage) u

@@ -33,8 +33,8 @@ use Rattle.machine.specs.Turns.{State, Turn, given}
 use Rattle.machine.proofs.UnitBytes.{other-unit-bytes}
 use Rattle.turns.specs.Units.{names}
 use Rattle.turns.specs.Parties.{Joint, run}
-use Rattle.turns.specs.ThreeLists.{Work, Party, processor0, processor1, channel, parties, start}
-use Rattle.turns.specs.CleanUnits.{changeBit, hasUnit, appliedTo, keySet, NoneApplied, ofProcessor, ofChannel, nextAny}
+use Rattle.turns.specs.ThreeLists.{Work, requests, Party, processor0, processor1, channel, parties, start}
+use Rattle.turns.specs.CleanUnits.{changeBit, hasUnit, appliedTo, keySet, NoneApplied, ofProcessor, ofChannel, nextAny, nextCall}
 use Rattle.turns.proofs.Starts.{settings, processor, memory, store, asked, reading, readOne}
 use Rattle.turns.proofs.CleanUnits.{clean-is-untouched}
 
@@ -59,27 +59,26 @@ module _ (storage : List ℕ) (h : length storage ≡ 65536) where
     abbrev after : State
     after = run (parties settings) beside order .shared
 
-    left : (after .storage ≡ set (set (set storage 12288 c) 2048 a) 4096 b)
-        × (after .keys ≡ set (set (set (set (replicate 32 0) 4 4) 6 6) 1 6) 2 6)
-    unfolding written afterFetch afterStore line firstOf firstByte firstLine prefixed permitted lowProtected addressing protection
-        beforeProtection verdict storageLeft bufferLeft keysRecorded completed performed step served pairStep anyBelow
-        channelStep nextCcw beforeFetching firstRefusal rangeForbidden obeyed operationOf beforeTransfer withCcwFetched carriedOut rangeRecorded bytesMoved
-    left =
-        let two = length-set storage 12288 c in
-        let three = length-set (set storage 12288 c) 2048 a in
-        (rw (h, holds, two, h, three, two, h), rw (h, holds, two, h, three, two, h))
+    -- the same requests whole, one after another
+    abbrev listed : State
+    listed = foldl (nextAny settings) (memory storage) (ofChannel (readOne c) ∷ ofProcessor (store 0 2048 a) ∷ ofProcessor (store 1 0 b) ∷ [])
 
-    -- and so do the same requests whole one after another
-    pub list-leaves : let n = foldl (nextAny settings) (memory storage)
-        (ofChannel (readOne c) ∷ ofProcessor (store 0 2048 a) ∷ ofProcessor (store 1 0 b) ∷ []) in
-        (n .storage ≡ after .storage) × (n .keys ≡ after .keys)
+    abbrev Left : State → Type 0
+    Left n = (n .storage ≡ set (set (set storage 12288 c) 2048 a) 4096 b) × (n .keys ≡ set (set (set (set (replicate 32 0) 4 4) 6 6) 1 6) 2 6)
+
+    pub both-leave : Left after × Left listed
     unfolding written afterFetch afterStore line firstOf firstByte firstLine prefixed permitted lowProtected addressing protection
         beforeProtection verdict storageLeft bufferLeft keysRecorded completed performed step served pairStep anyBelow channelRun steps
         channelStep nextCcw beforeFetching firstRefusal rangeForbidden obeyed operationOf beforeTransfer withCcwFetched carriedOut rangeRecorded bytesMoved
-    list-leaves =
+    both-leave =
         let two = length-set storage 12288 c in
-        let three = length-set (set storage 12288 c) 2048 a in
-        (rw (h, holds, two, h, three, two, h), rw (h, holds, two, h, three, two, h))
+        let three = length-set (set storage 12288 c) 2048 a in (
+          (rw (h, holds, two, h, three, two, h), rw (h, holds, two, h, three, two, h)),
+          (rw (h, holds, two, h, three, two, h), rw (h, holds, two, h, three, two, h)),
+        )
+
+    left : Left after
+    left = both-leave .0
 
     -- whatever the unit, no key is set
     none-applied : (u : ℕ) → NoneApplied settings beside order u
@@ -101,6 +100,13 @@ module _ (storage : List ℕ) (h : length storage ≡ 65536) where
         rw (left .0) (getD-set-other (set (set storage 12288 c) 2048 a) 4096 2048 b 0 (omega arith)
         ∙ getD-set-same (set storage 12288 c) 2048 a 0 (omega (arith, h, length-set storage 12288 c)))
 
+  -- A call finds the records that the host has written: with the prefix 8192 in the record of processor 0, a store at real 0 goes to absolute 8192
+  pub call-by-record : (a : ℕ) → nextCall settings (memory storage)
+      (record { processors = processor 8192 ∷ []; work = requests (store 0 0 a ∷ []) [] }) .storage ≡ set storage 8192 a
+  unfolding written afterStore line firstOf firstByte firstLine prefixed permitted lowProtected addressing protection
+      beforeProtection verdict storageLeft bufferLeft keysRecorded completed performed step served pairStep
+  call-by-record a = rw h
+
   -- The byte stored is another than the one that unit 1 held
   module _ (a : ℕ) (different : a ≢ getD storage 2048 0) where
     abbrev afterSet : KeyInstruction → State
@@ -116,15 +122,12 @@ module _ (storage : List ℕ) (h : length storage ≡ 65536) where
         held : getD (n .storage) 2048 0 ≡ a
         held = rw e (getD-set-same storage 2048 a 0 (omega arith))
 
-    pub clean-by-ssk : CleanButChanged (afterSet (Ssk 0 2048))
+    pub clean-by-setting : CleanButChanged (afterSet (Ssk 0 2048)) × CleanButChanged (afterSet (Sske 0 0))
     unfolding written afterStore line firstOf firstByte firstLine prefixed permitted lowProtected addressing protection
         beforeProtection verdict storageLeft bufferLeft keysRecorded keysLeft completed performed step served pairStep
-    clean-by-ssk = let two = length-set storage 2048 a in differs (afterSet (Ssk 0 2048)) (rw (h, two, h)) (rw (h, two, h))
-
-    pub clean-by-sske : CleanButChanged (afterSet (Sske 0 0))
-    unfolding written afterStore line firstOf firstByte firstLine prefixed permitted lowProtected addressing protection
-        beforeProtection verdict storageLeft bufferLeft keysRecorded keysLeft completed performed step served pairStep
-    clean-by-sske = let two = length-set storage 2048 a in differs (afterSet (Sske 0 0)) (rw (h, two, h)) (rw (h, two, h))
+    clean-by-setting =
+        let two = length-set storage 2048 a in
+        (differs (afterSet (Ssk 0 2048)) (rw (h, two, h)) (rw (h, two, h)), differs (afterSet (Sske 0 0)) (rw (h, two, h)) (rw (h, two, h)))
 
   -- A refused SSK is no exception. This one designates unit 1 and has bit 28 of R2 on: it is refused with 6, and the claim speaks of unit 1
   abbrev refusedSet : Turn
@@ -204,5 +207,5 @@ exception-needed claim =
     let zeros : List ℕ = replicate 65536 0 in
     let long : length zeros ≡ 65536 = length-replicate {A = ℕ} 65536 0 in
     let zero-there : getD zeros 2048 0 ≡ 0 = getD-replicate {A = ℕ} 65536 2048 0 0 (omega arith) in
-    let (clean, changed) = clean-by-ssk zeros long 1 (λ e. omega (arith, e ∙ zero-there)) in
+    let (clean, changed) = clean-by-setting zeros long 1 (λ e. omega (arith, e ∙ zero-there)) .0 in
     changed (claim settings (storedAndSet zeros 1 (Ssk 0 2048)) (processor0 ∷ processor0 ∷ []) 1 clean)

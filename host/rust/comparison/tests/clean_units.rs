@@ -344,6 +344,9 @@ struct Run {
     channel: Channel,
     units: Vec<History>,
     turns: Vec<Turn>,
+    /// What the first turn did that broke the law of a single turn. It is said at the end, behind
+    /// the claim, so that the claim is tested by itself.
+    broken: Option<String>,
 }
 
 impl Run {
@@ -355,6 +358,7 @@ impl Run {
             channel,
             units: vec![History::default(); start.keys.len()],
             turns: Vec::new(),
+            broken: None,
             start,
         }
     }
@@ -364,11 +368,17 @@ impl Run {
         for (number, program) in self.channel.programs.iter().enumerate() {
             writeln!(text, "program {number}: {:?}", program.request).unwrap();
         }
-        writeln!(text, "{:?}, the turns up to here:", self.lent.settings).unwrap();
+        writeln!(text, "{:?}, the turns:", self.lent.settings).unwrap();
         for turn in &self.turns {
             writeln!(text, "{turn:?}").unwrap();
         }
         panic!("{text}");
+    }
+
+    /// The last turn broke the law of a single turn.
+    fn breaks(&mut self, what: &str) {
+        let turn = self.turns.len();
+        self.broken.get_or_insert(format!("turn {turn}: {what}"));
     }
 
     /// Where the bytes of a unit are. Where the length of storage or the number of keys is wrong,
@@ -457,7 +467,7 @@ impl Run {
             self.units[unit].set[way + place] = true;
         }
         if self.lent.keys != keys {
-            self.fail(&format!("not the keys of {set:?} are set, or not to {key}"));
+            self.breaks(&format!("not the keys of {set:?} are set, or not to {key}"));
         }
     }
 
@@ -467,13 +477,13 @@ impl Run {
         let changed = self.lent.storage[bytes.clone()] != self.before.storage[bytes.clone()];
         let (old, new) = (self.before.keys[unit], self.lent.keys[unit]);
         if changed && new & CHANGE == 0 {
-            self.fail(&format!(
+            self.breaks(&format!(
                 "unit {unit} is changed, and its change bit is off"
             ));
         }
         let turned_off = old & !new & CHANGE != 0;
         if turned_off && !set.contains(&unit) {
-            self.fail(&format!("the change bit of unit {unit} is turned off"));
+            self.breaks(&format!("the change bit of unit {unit} is turned off"));
         }
         let history = &mut self.units[unit];
         history.changed[turn.party()] |= changed;
@@ -507,7 +517,7 @@ impl Run {
     }
 
     /// The claim, at the end of the sequence. A change bit that is on stays on, so where the claim
-    /// says something it was zero at the start.
+    /// says something it was zero at the start. Then the law of each single turn.
     fn test_end(&self) {
         for unit in (0..self.units.len()).filter(|&unit| self.says(unit)) {
             if !self.is_as_at_start(unit) {
@@ -519,6 +529,9 @@ impl Run {
         }
         if refused_by_64(&self.start) && self.lent != self.start {
             self.fail("line 64 refuses all, and something is changed");
+        }
+        if let Some(what) = &self.broken {
+            self.fail(what);
         }
     }
 }
@@ -681,7 +694,7 @@ fn channel_turn<U: ChannelUnit>(random: &mut Random, run: &mut Run) {
 }
 
 /// A sequence from a random start, from turns in single alternation to long stretches of one
-/// party; tested turn by turn and at its end.
+/// party; tested at its end.
 fn random_sequence<P: Unit, C: ChannelUnit>(seed: u64, name: String, pool: &Pool) -> Run {
     let random = &mut Random::new(seed);
     let (start, channel) = random_start(random, pool);

@@ -160,7 +160,7 @@ module _ (storage : List ℕ) (h : length storage ≡ 65536) where
   beside-no-exception = (rw h, (refl, tt))
 
   -- Which requests are the exception for a unit: a completed SSK for the unit that it designates, by the prefix in force, an SSKE for both units of its
-  -- block. No SSK that is refused is: with 6, 5 or 65; and no other request
+  -- block. No SSK of unit 1 that is refused is, with 6 or with 65, and no other request of unit 1
   abbrev applied : State → List (Turn × ℕ) → List Bool
   applied m rs = map (λ r. keySet settings m (r .0) (r .1)) rs
 
@@ -184,7 +184,6 @@ module _ (storage : List ℕ) (h : length storage ≡ 65536) where
   abbrev othersOfUnit1 : List Turn
   othersOfUnit1 =
       asked 0 (Key (Ssk 0 2056))
-      ∷ asked 0 (Key (Ssk 0 67584))
       ∷ asked 2 (Key (Ssk 0 2048))
       ∷ asked 0 (Key (Isk 0 2048))
       ∷ asked 0 (Key (Rrb 2048))
@@ -195,11 +194,11 @@ module _ (storage : List ℕ) (h : length storage ≡ 65536) where
       ∷ store 0 2048 7
       ∷ []
 
-  pub applied-by-no-other : map (λ t. keySet settings (memory storage) t 1) othersOfUnit1 ≡ replicate 10 false
+  pub applied-by-no-other : map (λ t. keySet settings (memory storage) t 1) othersOfUnit1 ≡ replicate 9 false
   unfolding line firstOf firstLine addressing protection beforeProtection verdict completed performed step served pairStep anyBelow names prefixed
   applied-by-no-other = rw h
 
--- So the claim without its exception does not hold
+-- Since a unit can be clean by SSK though it was stored to, the claim without its exception does not hold
 pub exception-needed : ¬ ((s : Settings) (m : Joint State Work Party) (o : List Party) (u : ℕ)
     → changeBit (run (parties s) m o .shared .keys) u ≡ 0
     → unitBytes s (run (parties s) m o .shared .storage) u ≡ unitBytes s (m .shared .storage) u)

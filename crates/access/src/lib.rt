@@ -1,6 +1,8 @@
 // Fetch and store of 1 to 256 bytes over lent storage, keys and buffer. A refused access touches nothing. An access touches one unit or two: the
 // lines of the table are tested at the first byte in each, and then its bytes in each are moved and recorded in the unit's key. Fetch and
 // store are two functions, since one only reads storage and the other only reads the buffer, and for speed (docs/BENCHMARK.md).
+#![tactic(auto)]
+
 mod check;
 mod span;
 mod transfer;

@@ -1,5 +1,7 @@
 // What numbers and bytes stand for at the boundary: settings, processor records, answers. A record is two words: its state, which is PSW key,
 // controls, condition code and a zero, and its prefix.
+#![tactic(auto)]
+
 ghost use Rattle.std.specs.Prelude.{◌≡◌};
 ghost use Rattle.boundary.specs.Boundary.{settings_of, Packs};
 ghost use Rattle.boundary.specs.Words.{state_valid as is_state_valid, record_of};

@@ -1,5 +1,7 @@
 // The channel (document 02, W4): programs of CCWs that move data between storage and a device, under the storage keys. The device is two lent
 // buffers: bytes from it, and room for bytes to it. A request can be done whole, or step by step, a step being one CCW.
+#![tactic(auto)]
+
 mod ccw;
 mod moving;
 mod program;

@@ -1,5 +1,7 @@
 // The boundary for programs in C, Rust and other languages: numbers and byte slices only. Nothing is asked of the caller: whatever the
 // numbers and bytes are, the call ends with an answer of the table, and one that is not completed changes nothing.
+#![tactic(auto)]
+
 mod record;
 mod serve;
 

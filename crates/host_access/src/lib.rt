@@ -2,6 +2,8 @@
 // is as long as the bytes that are lent for it. Nothing is asked of the caller: whatever the numbers and bytes are, the call ends with an
 // answer of the table, and one that is not completed changes nothing. That it is a crate of its own, compiled apart
 // into an object of its own, is for speed (docs/BENCHMARK.md).
+#![tactic(auto)]
+
 ghost use Rattle.std.specs.Prelude.{◌/◌, ◌%◌, ◌≡◌};
 ghost use Rattle.host_access.specs.ShortWay.{access_outcome, accessed, AccessCondition1};
 

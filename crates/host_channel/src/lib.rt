@@ -1,5 +1,7 @@
 // The channel, for programs in C, Rust and other languages: a call runs a whole request of the channel on the machine that is lent to it. Nothing
 // is asked of the caller: whatever the numbers and bytes are, the call ends with an answer. One step of a request is in `host_channel_step`.
+#![tactic(auto)]
+
 pub mod progress;
 
 ghost use Rattle.std.specs.Prelude.{◌≡◌};

@@ -1,5 +1,7 @@
 // One step of a request of the channel, for programs in C, Rust and other languages, beside `host_channel`, whose bytes of a progress it takes. The
 // two are libraries of their own so that each is compiled with its own copy of the routine for one CCW, put into it (docs/BENCHMARK.md).
+#![tactic(auto)]
+
 ghost use Rattle.std.specs.Prelude.{◌≡◌};
 ghost use Rattle.host_channel.specs.ChannelCalls.{channel_call, channel_step_called};
 

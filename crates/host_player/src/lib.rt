@@ -1,5 +1,7 @@
 // The player of recordings, for programs in C, Rust and other languages: a call plays a piece of a recording on the machine that is lent to it.
 // Nothing is asked of the caller: whatever the numbers and bytes are, the call ends, and one that is refused changes nothing.
+#![tactic(auto)]
+
 mod state;
 
 ghost use Rattle.std.specs.Prelude.{◌≡◌};

@@ -1,5 +1,7 @@
 // The six key instructions over a lent key array: as one function that takes any of them, and in `insert`, `set` and `reset` as a function
 // for each.
+#![tactic(auto)]
+
 ghost use Rattle.std.specs.Prelude.{◌≡◌, []};
 ghost use Rattle.machine.specs.Step.{outcome, step};
 

@@ -235,8 +235,8 @@ module _ (s : Settings) (storage keys : List ℕ) (p : Processor) (r : Request) 
       go : (q : Request) → NoAccess q
           → ((E : ℕ → Type 0) → Starts E (addressing (length storage) q) → Starts E (protection s keys p q) → E answer.number
           → answer.place ≡ 0) → answer.place ≡ 0
-      go (Key i) h f = f (λ n. Unit {0}) (line_starts _ _ _) tt tt
-      go (Prefix i) h f = f (λ n. Unit {0}) (line_starts _ _ _) tt tt
+      go (Key i) h f = f (λ n. Unit {0}) (line_starts (λ n. Unit {0}) _ _) tt tt
+      go (Prefix i) h f = f (λ n. Unit {0}) (line_starts (λ n. Unit {0}) _ _) tt tt
       go (Access kind address count) h f = absurd h
 
   -- the word of a request that is refused is 0

@@ -2,7 +2,7 @@
 use crate::AccessKind;
 
 // A request: the channel's key, the address of the first CCW, and how many CCWs are granted. Each is any number.
-#[derive(Drop)]
+#[derive(Clone, Copy)]
 pub struct ChannelRequest {
     pub key: u32,
     pub first: u32,
@@ -10,7 +10,7 @@ pub struct ChannelRequest {
 }
 
 // A channel command word, without the byte that is ignored.
-#[derive(Drop)]
+#[derive(Clone, Copy)]
 pub struct Ccw {
     pub command: u8,
     pub address: u32,
@@ -19,7 +19,7 @@ pub struct Ccw {
 }
 
 // What a CCW asks for.
-#[derive(Drop)]
+#[derive(Clone, Copy)]
 pub enum ChannelOperation {
     // A transfer in channel, to the CCW at this address.
     TransferInChannel {
@@ -37,7 +37,7 @@ pub enum ChannelOperation {
 }
 
 // How control comes to the CCW to come.
-#[derive(Drop)]
+#[derive(Clone, Copy)]
 pub enum Chaining {
     // It is the first.
     First,
@@ -50,7 +50,7 @@ pub enum Chaining {
 }
 
 // The channel's record.
-#[derive(Drop)]
+#[derive(Clone, Copy)]
 pub struct ChannelRecord {
     // The address of the CCW to come; after the last, that behind it; where one is refused, its own.
     pub ccw: u32,
@@ -61,7 +61,7 @@ pub struct ChannelRecord {
 }
 
 // Why a request ends with a number other than 0.
-#[derive(Drop)]
+#[derive(Clone, Copy)]
 pub enum ChannelReason {
     // 64
     Configuration,
@@ -80,21 +80,21 @@ pub enum ChannelReason {
 }
 
 // The answer: the program ended, or it was refused.
-#[derive(Drop)]
+#[derive(Clone, Copy)]
 pub enum ChannelAnswer {
     Completed,
     Refused { reason: ChannelReason },
 }
 
 // Whether a request has answered.
-#[derive(Drop)]
+#[derive(Clone, Copy)]
 pub enum Standing {
     UnderWay,
     Answered { answer: ChannelAnswer },
 }
 
 // How far a request has come: the channel's record, how many CCWs were fetched, and the answer if there is one.
-#[derive(Drop)]
+#[derive(Clone, Copy)]
 pub struct ChannelProgress {
     pub state: ChannelRecord,
     pub fetched: u32,
@@ -102,7 +102,7 @@ pub struct ChannelProgress {
 }
 
 // What a whole request gives: the answer, how many CCWs were fetched, and the channel's record.
-#[derive(Drop)]
+#[derive(Clone, Copy)]
 pub struct ChannelReply {
     pub answer: ChannelAnswer,
     pub count: u32,

@@ -1,5 +1,7 @@
 // Plays a recording: reads it from standard input, in pieces of any size, and writes the line of each request and that of a bad record, which
 // ends the run. What is read and written in between is the library `player`'s; here the bytes come and go.
+#![tactic(auto)]
+
 ghost use Rattle.std.specs.Prelude.{◌+◌, ◌-◌, ◌≤◌, ◌≡◌, length, take, drop, replicate};
 ghost use Rattle.std.proofs.Math.Seq.{paste};
 ghost use Rattle.player.specs.Run.{start_settings};

@@ -1,5 +1,7 @@
 // The player of recordings: requests are given to the storage unit one after the other, and each is answered by a line. A recording comes in
 // pieces; how far the run is between two of them is a value. The settings, storage and keys are the caller's.
+#![tactic(auto)]
+
 mod perform;
 mod text;
 

@@ -1,4 +1,6 @@
 // Addresses: the 24-bit addition that makes each byte's real address, and real to absolute.
+#![tactic(auto)]
+
 ghost use Rattle.std.specs.Prelude.{◌≡◌};
 ghost use Rattle.machine.specs.Bits.{bits};
 ghost use Rattle.machine.specs.Numbers.{add24 as sum24};

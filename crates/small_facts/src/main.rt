@@ -1,4 +1,6 @@
 // The table of small facts and the examples of document 02, run through the storage unit: a line for each, with what came out of the unit.
+#![tactic(auto)]
+
 mod answers;
 mod case;
 mod compare;

@@ -1,4 +1,6 @@
 // Storage keys: the key byte, who may fetch and store, and what is recorded.
+#![tactic(auto)]
+
 ghost use Rattle.std.specs.Prelude.{◌≡◌, ◌<◌, max, get_or};
 ghost use Rattle.machine.specs.Key.{key_in_word, after_reset, code_of, joined as joined_of};
 ghost use Rattle.machine.specs.Protection.{permitted as is_permitted, low_protected, recorded as recorded_by};

@@ -1,4 +1,6 @@
 // The storage unit: one request for one processor, one answer.
+#![tactic(auto)]
+
 pub mod prefix;
 
 ghost use Rattle.std.specs.Prelude.{◌≡◌};

@@ -1,5 +1,7 @@
 // The reader of a recording: the record in front of some bytes is a request, a remark or bad, or the recording is at its end. A record is a
 // house record of kind 1 fetch, 2 store, 3 key instruction, 4 prefix instruction or 255 remark.
+#![tactic(auto)]
+
 ghost use Rattle.std.specs.Prelude.{◌+◌, ◌≤◌, ◌≡◌, length};
 ghost use Rattle.house_record.specs.declared.Found.TheVariants.{Whole};
 ghost use Rattle.trace.specs.Trace.{request_in, fetch_in, store_in, key_in, prefix_in, remark_in, kind_read, record_read, read_of};

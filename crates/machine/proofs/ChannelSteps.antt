@@ -7,7 +7,7 @@ use mathlib.Core.Logic.{inl, inr, ⊎_elim}
 use mathlib.Core.List.{List, [], ◌∷◌}
 use mathlib.Core.Option.{Option, none, some}
 use native.Mathlib.Omega.{arith}
-use lib.ListN.{length, get_or, set}
+use lib.ListN.{length, get_or}
 use lib.Dec.{eqb, leb, ltb}
 use borrow.Author.Tests.{eqb-true, eqb-false, ltb-false, leb-false, not-false}
 use Rattle.machine.specs.declared.Settings.{Settings}
@@ -21,7 +21,6 @@ use Rattle.machine.specs.declared.channel.Standing.{Standing}
 use Rattle.machine.specs.declared.channel.Standing.TheVariants.{UnderWay, Answered}
 use Rattle.machine.specs.declared.channel.ChannelAnswer.{ChannelAnswer}
 use Rattle.machine.specs.declared.channel.ChannelAnswer.TheVariants.{Completed, Refused}
-use Rattle.machine.specs.Lists.{written}
 use Rattle.machine.specs.Numbers.{lengths_valid, unit_of}
 use Rattle.machine.specs.Key.{after_fetch}
 use Rattle.machine.specs.Channel.{ccw_at, operation_of, outside, range_recorded, bytes_moved, Channel, refused, first_refusal, before_fetching}

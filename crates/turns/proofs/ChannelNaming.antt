@@ -1,5 +1,5 @@
 -- What a step of the channel names, by what it answers and whether it fetched a CCW: each row of the table at the head of
--- specs/ChannelUnits.antt, as a law. The steps are told apart by their lines (by_lines). Assumes nothing.
+-- specs/ChannelUnits.antt, as a law. The steps are told apart by their lines (by-lines). Assumes nothing.
 use Prim.Native.Nat.{ℕ, ◌+◌, ◌%◌, ◌/◌, ◌<◌}
 use mathlib.Core.Path.{◌≡◌, refl, ap, ◌∙◌}
 use mathlib.Core.Bool.{Bool, true, false, cond}

@@ -6,7 +6,7 @@
 -- 2. So a turn of i goes past j's run alone, and j's steps treat the parts as they did without it: Pairwise outlasts a turn (stays).
 -- 3. So any two turns commute in every state of a run; a turn goes past an order of turns (delay), and a whole order past another (exchange).
 -- 4. Let every party be at its end after the order p, and after q. Then p and then q ends as p does, q and then p as q does; and by 3 these two
---    are the same (any_order).
+--    are the same (any-order).
 use Prim.Native.Nat.{ℕ, zero, suc}
 use mathlib.Core.Path.{◌≡◌, refl, sym, ap, ◌∙◌}
 use mathlib.Core.Logic.{◌≢◌, ◌⊎◌, ⊎_elim}

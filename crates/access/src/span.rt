@@ -9,7 +9,7 @@ use prefixing::{add24, prefixed};
 use table::numbers::unit_of;
 
 // The span of an access from one of its bytes on, in the unit of that byte.
-#[derive(Drop)]
+#[derive(Clone, Copy)]
 pub(crate) struct Span {
     // The real address of its first byte.
     pub(crate) real: u32,

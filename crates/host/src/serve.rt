@@ -22,7 +22,7 @@ use table::answers::{answer_of, first_of};
 use table::numbers::{lengths_valid, valid};
 
 // The record of a request's processor in the bytes of the records: from where on it stands, and its two words.
-#[derive(Drop)]
+#[derive(Clone, Copy)]
 struct Own {
     at: usize,
     state: u32,

@@ -9,7 +9,7 @@ use prefixing::prefixed;
 use table::numbers::unit_of;
 
 // Where a block lies: the unit of its absolute address, and the rule that gave the address.
-#[derive(Drop)]
+#[derive(Clone, Copy)]
 pub(crate) struct Block {
     pub unit: usize,
     pub rule: u32,

@@ -19,7 +19,7 @@ const TEXT: usize = 262144;
 const TURNS: u64 = 18446744073709551615;
 
 // Where a run is between two turns: the player, how many bytes are held that it has not read, and whether the run is ended.
-#[derive(Drop)]
+#[derive(Clone, Copy)]
 struct Going {
     player: Player,
     held: usize,
@@ -37,7 +37,7 @@ fn settings() -> Settings
 }
 
 // What came: how many bytes are held then, and whether reading failed.
-#[derive(Drop)]
+#[derive(Clone, Copy)]
 struct Came {
     held: usize,
     failed: bool,

@@ -17,7 +17,7 @@ use machine::{Processor, Settings};
 use trace::{LENGTH_MAXIMUM, Read, read_record};
 
 // How far a run is: the pair of records, and how many requests and how many records of any kind came so far.
-#[derive(Drop)]
+#[derive(Clone, Copy)]
 pub struct Player {
     pub processors: [Processor; 2],
     pub requests: u64,
@@ -25,7 +25,7 @@ pub struct Player {
 }
 
 // How a call stopped.
-#[derive(Drop)]
+#[derive(Clone, Copy)]
 pub enum Status {
     // A record was read and passed; another may follow.
     Passed,
@@ -40,7 +40,7 @@ pub enum Status {
 }
 
 // What a call leaves: the player, how many bytes it has read and how many it has written, and how it stopped.
-#[derive(Drop)]
+#[derive(Clone, Copy)]
 pub struct Played {
     pub player: Player,
     pub read: usize,

@@ -5,7 +5,7 @@ ghost use Rattle.machine.specs.Answers.{number_of, place_of, word_of, rule_of};
 use machine::Answer;
 use table::answers::number_of;
 
-#[derive(Drop)]
+#[derive(Clone, Copy)]
 pub(crate) struct Values {
     pub(crate) number: u32,
     pub(crate) place: u32,

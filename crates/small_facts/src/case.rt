@@ -6,7 +6,7 @@ use machine::{AccessKind, KeyInstruction, PrefixInstruction, Processor, Reply, R
 // Every byte of the buffer. Storage is zero before the request.
 const BYTE: u8 = 0xA5;
 
-#[derive(Drop)]
+#[derive(Clone, Copy)]
 pub(crate) struct Case {
     processor: Processor,
     // The keys of the first two units; the others are zero.
@@ -15,7 +15,7 @@ pub(crate) struct Case {
     request: Request,
 }
 
-#[derive(Drop)]
+#[derive(Clone, Copy)]
 pub(crate) struct Seen {
     pub(crate) answer: Values,
     pub(crate) code: u8,

@@ -8,7 +8,7 @@ use crate::show::number;
 use machine::{AccessKind, Processor, Reply, Request};
 
 // A turn: the processor with this number stores a byte at a real address.
-#[derive(Drop)]
+#[derive(Clone, Copy)]
 struct Turn {
     processor_number: usize,
     address: u32,
@@ -16,7 +16,7 @@ struct Turn {
 }
 
 // What a run of fact 19 leaves beside storage and keys.
-#[derive(Drop)]
+#[derive(Clone, Copy)]
 struct End {
     processors: [Processor; 2],
     answers: [Values; 4],

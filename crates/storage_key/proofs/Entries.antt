@@ -76,7 +76,7 @@ unfolding word_of
 word_same f g zero same = refl
 word_same f g (suc n) same = rw (word_same (λ i. f (suc i)) (λ i. g (suc i)) n (λ i h. same (suc i) (omega arith)), same 0 (omega arith))
 
--- The permissions of an access key over 15: it matches no storage key, whose access_control_lem bits are below 16.
+-- The permissions of an access key over 15: it matches no storage key, whose access-control bits are below 16.
 abbrev pub unmatched : AccessKind → ℕ
 unmatched Fetch = 1431655765
 unmatched Store = 0

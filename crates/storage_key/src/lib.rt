@@ -58,7 +58,7 @@ pub fn joined(low: u8, high: u8) -> u8
 
 // Who may fetch and store: 512 entries, one for each access key and each value of the five leading bits of a storage key. The 32 entries of an
 // access key are a word for fetch, among the first sixteen, and a word for store, among the second; an entry has a bit in each, from right to
-// left, which is one where that is permitted. Two entries side by side are for one value of the access_control_lem bits, with fetch_protection_lem
+// left, which is one where that is permitted. Two entries side by side are for one value of the access-control bits, with fetch-protection
 // bit 0 and 1: they have 11 in the word for fetch and 11 in the word for store where the keys match, else 01 and 00. The words of a kind stand
 // together so that `word_of` takes one array of sixteen. What other forms took: docs/BENCHMARK.md.
 const PERMISSIONS: [[u32; 16]; 2] = [
@@ -101,7 +101,7 @@ fn word_of(words: [u32; 16], access_key: u8) -> u32
 }
 
 // The permissions of an access key for a kind of access, a bit for each value of the five leading bits of a storage key, from right to left.
-// An access key over 15 has no entries and matches no storage key: a fetch is permitted where the fetch_protection_lem bit is zero, a store
+// An access key over 15 has no entries and matches no storage key: a fetch is permitted where the fetch-protection bit is zero, a store
 // nowhere.
 pub fn permissions(kind: AccessKind, access_key: u8) -> u32
     ensures { result ≡ permissions_of kind access_key }

@@ -11,7 +11,7 @@ use house_record::{Found, find};
 use machine::{AccessKind, KeyInstruction, PrefixInstruction, Request};
 
 // What stands in front. A size is that of the whole record.
-#[derive(Drop)]
+#[derive(Clone, Copy)]
 pub enum Read {
     // The data of a store are the bytes of the record from offset 11 on.
     Request {

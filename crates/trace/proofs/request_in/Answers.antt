@@ -1,0 +1,6 @@
+-- The processor is the first byte of the body, and the size counts length and kind too. Assumes nothing.
+use borrow.Author.Rules.{rules}
+use Rattle.trace.proofs.request_in.Goals as goal
+
+pub returns : goal.returns
+returns c = rw c.byte-processor_number.ensures.0

@@ -103,15 +103,15 @@ module _ (s : Settings) (storage_length : ℕ) (keys : List ℕ) (p : Processor)
   abbrev operand_lines : Verdict
   operand_lines = first_of machine_lines operand_line
 
-  abbrev first_byte : Verdict
-  first_byte = line Addressing (test_5 0)
+  abbrev line_5_first : Verdict
+  line_5_first = line Addressing (test_5 0)
 
   abbrev firsts : Verdict
   firsts = first_lines s storage_length (length keys) p kind address count buffer_length
 
-  firsts_in_two : firsts ≡ first_of operand_lines first_byte
+  firsts_in_two : firsts ≡ first_of operand_lines line_5_first
   unfolding first_lines
-  firsts_in_two = sym (first_assoc machine_lines operand_line first_byte)
+  firsts_in_two = sym (first_assoc machine_lines operand_line line_5_first)
 
   -- the table of an access is lines 64, 65 and 66, and lines 5 and 4
   table_in_two : first_of operand_lines lines_5_and_4 ≡ table
@@ -124,8 +124,8 @@ module _ (s : Settings) (storage_length : ℕ) (keys : List ℕ) (p : Processor)
   -- line 5 may be tested at the first byte before: an access without bytes is refused before it
   first_byte_first : first_of firsts lines_5_and_4 ≡ table
   first_byte_first =
-      rw (firsts_in_two, first_assoc operand_lines first_byte lines_5_and_4)
-      (left_out operand_lines first_byte lines_5_and_4
+      rw (firsts_in_two, first_assoc operand_lines line_5_first lines_5_and_4)
+      (left_out operand_lines line_5_first lines_5_and_4
       (λ clear. first_byte_before Addressing test_5 count (operands_known clear).0 (first_byte Protection test_4 count))
       ∙ table_in_two)
 
@@ -135,8 +135,8 @@ module _ (s : Settings) (storage_length : ℕ) (keys : List ℕ) (p : Processor)
 
   -- where none does, the other lines decide
   module _ (first : firsts ≡ Clear) where
-    both_clear : (operand_lines ≡ Clear) × (first_byte ≡ Clear)
-    both_clear = first_clear operand_lines first_byte (sym firsts_in_two ∙ first)
+    both_clear : (operand_lines ≡ Clear) × (line_5_first ≡ Clear)
+    both_clear = first_clear operand_lines line_5_first (sym firsts_in_two ∙ first)
 
     operands : (0 < count) × (count ≤ 256) × (count ≤ buffer_length)
     operands = operands_known both_clear.0

@@ -1,7 +1,6 @@
 -- `pack` puts number, rule, place and word side by side. Assumes nothing.
 use native.Mathlib.Omega.{arith}
 use Rattle.machine.proofs.Requests.{number_of_reason}
-use borrow.Author.Rules.{rules}
 use Rattle.boundary.proofs.pack.Goals as goal
 
 pub overflow_mul-result-in-Refused : goal.overflow_mul-result-in-Refused

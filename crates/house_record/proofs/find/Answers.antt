@@ -1,7 +1,6 @@
 -- The tests of the length lead to the three answers. Assumes nothing.
 use native.Mathlib.Omega.{arith}
 use Rattle.house_record.proofs.Finding.{at_end_lem, headless, kindless, cut, whole}
-use borrow.Author.Rules.{rules}
 use Rattle.house_record.proofs.find.Goals as goal
 
 pub returns-then-bytes-at : goal.returns-then-bytes-at

@@ -1,5 +1,5 @@
 -- `prefixed` gives the rules' `prefixed`: each answer is that of the rule that applies, by arithmetic. Assumes nothing.
-use Rattle.std.proofs.Common.{arith, rules}
+use Rattle.std.proofs.Common.{arith}
 use Rattle.machine.proofs.Prefixing.{prefixed_is}
 use Rattle.prefixing.proofs.prefixed.Goals as goal
 

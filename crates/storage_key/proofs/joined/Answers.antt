@@ -3,7 +3,6 @@ use Prim.Native.Nat.{◌+◌, ◌*◌, ◌/◌}
 use mathlib.Core.Path.{◌≡◌}
 use native.Mathlib.Omega.{arith}
 use Rattle.machine.specs.Key.{access_control, fetch_protection, joined}
-use borrow.Author.Rules.{rules}
 use Rattle.storage_key.proofs.joined.Goals as goal
 
 pub returns : goal.returns

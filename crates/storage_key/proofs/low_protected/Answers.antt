@@ -1,6 +1,5 @@
 -- `low_protected` is the rules' test: by the kind of access. Assumes nothing.
 use Rattle.machine.specs.Protection.{low_protected}
-use borrow.Author.Rules.{rules}
 use Rattle.storage_key.proofs.low_protected.Goals as goal
 
 pub returns-in-Fetch : goal.returns-in-Fetch

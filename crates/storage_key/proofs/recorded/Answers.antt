@@ -1,7 +1,6 @@
 -- `recorded` is the rules' key after a fetch and after a store, in fewer operations. Assumes nothing.
 use native.Mathlib.Omega.{arith}
 use Rattle.machine.specs.Key.{after_fetch, after_store}
-use borrow.Author.Rules.{rules}
 use Rattle.storage_key.proofs.recorded.Goals as goal
 
 pub returns-in-Fetch : goal.returns-in-Fetch

@@ -1,7 +1,6 @@
 -- A fetch has seven bytes behind its kind. Assumes nothing.
 use mathlib.Core.Path.{◌∙◌}
 use Rattle.trace.proofs.Bodies.{other_fetch, fetched}
-use borrow.Author.Rules.{rules}
 use Rattle.trace.proofs.fetch_in.Goals as goal
 
 pub returns-then-body-ne7 : goal.returns-then-body-ne7

@@ -2,7 +2,6 @@
 use native.Mathlib.Omega.{arith}
 use mathlib.Core.Path.{refl, sym, ◌∙◌}
 use Rattle.trace.proofs.Bodies.{other_key, key_case, no_key_case}
-use borrow.Author.Rules.{rules}
 use Rattle.trace.proofs.key_in.Goals as goal
 
 pub returns-then-body-ne10 : goal.returns-then-body-ne10

@@ -2,7 +2,6 @@
 use native.Mathlib.Omega.{arith}
 use mathlib.Core.Path.{refl, sym, ◌∙◌}
 use Rattle.trace.proofs.Bodies.{other_prefix, prefix_case, no_prefix_case}
-use borrow.Author.Rules.{rules}
 use Rattle.trace.proofs.prefix_in.Goals as goal
 
 pub returns-then-body-ne6 : goal.returns-then-body-ne6

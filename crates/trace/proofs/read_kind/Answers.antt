@@ -1,7 +1,6 @@
 -- The kind tells how the body is read. Assumes nothing.
 use mathlib.Core.Path.{◌∙◌}
 use Rattle.trace.proofs.Bodies.{kind_1, kind_2, kind_3, kind_4, kind_255, other_kind}
-use borrow.Author.Rules.{rules}
 use Rattle.trace.proofs.read_kind.Goals as goal
 
 pub returns-in-1 : goal.returns-in-1

@@ -1,7 +1,6 @@
 -- What is found in front leads to the four answers. Assumes nothing.
 use mathlib.Core.Path.{sym, ◌∙◌}
 use Rattle.trace.proofs.Bodies.{front_end, front_short, front_whole, front_inside}
-use borrow.Author.Rules.{rules}
 use Rattle.trace.proofs.read_record.Goals as goal
 
 pub whole-requires : goal.whole-requires

@@ -1,6 +1,5 @@
 -- A remark has at most 256 bytes. Assumes nothing.
 use Rattle.trace.proofs.Bodies.{remarked, long_remark}
-use borrow.Author.Rules.{rules}
 use Rattle.trace.proofs.remark_in.Goals as goal
 
 pub returns-then-body-gt-REMARK_MAXIMUM : goal.returns-then-body-gt-REMARK_MAXIMUM

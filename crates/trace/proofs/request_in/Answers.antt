@@ -1,5 +1,4 @@
 -- The processor is the first byte of the body, and the size counts length and kind too. Assumes nothing.
-use borrow.Author.Rules.{rules}
 use Rattle.trace.proofs.request_in.Goals as goal
 
 pub returns : goal.returns

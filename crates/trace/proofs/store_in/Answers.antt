@@ -1,7 +1,6 @@
 -- A store has seven bytes behind its kind and as many more as it says. Assumes nothing.
 use mathlib.Core.Path.{◌∙◌}
 use Rattle.trace.proofs.Bodies.{other_store, stored}
-use borrow.Author.Rules.{rules}
 use Rattle.trace.proofs.store_in.Goals as goal
 
 pub returns-then-body-count : goal.returns-then-body-count

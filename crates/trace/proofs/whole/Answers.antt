@@ -1,6 +1,5 @@
 -- The length is tested, and the body lies between the kind and the end of the record. Assumes nothing.
 use Rattle.trace.proofs.Bodies.{too_long, read_as}
-use borrow.Author.Rules.{rules}
 use Rattle.trace.proofs.whole.Goals as goal
 
 pub returns-then-stated-gt-LENGTH_MAXIMUM : goal.returns-then-stated-gt-LENGTH_MAXIMUM

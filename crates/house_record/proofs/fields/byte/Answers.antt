@@ -2,7 +2,6 @@
 use native.Mathlib.Omega.{arith}
 use mathlib.Core.Path.{sym}
 use Rattle.house_record.proofs.Fieldwise.{one, past}
-use borrow.Author.Rules.{rules}
 use Rattle.house_record.proofs.fields.byte.Goals as goal
 
 pub returns-then-at-bytes : goal.returns-then-at-bytes

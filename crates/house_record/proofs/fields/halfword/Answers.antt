@@ -2,7 +2,6 @@
 use native.Mathlib.Omega.{arith}
 use mathlib.Core.Path.{sym}
 use Rattle.house_record.proofs.Fieldwise.{past, two}
-use borrow.Author.Rules.{rules}
 use Rattle.house_record.proofs.fields.halfword.Goals as goal
 
 pub returns-then-bytes-at : goal.returns-then-bytes-at

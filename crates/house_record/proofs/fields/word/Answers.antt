@@ -1,7 +1,6 @@
 -- Four bytes are two bytes and 65,536 times the next two. Assumes nothing.
 use mathlib.Core.Path.{sym}
 use Rattle.house_record.proofs.Fieldwise.{past, four}
-use borrow.Author.Rules.{rules}
 use Rattle.house_record.proofs.fields.word.Goals as goal
 
 pub returns-then-bytes-at : goal.returns-then-bytes-at

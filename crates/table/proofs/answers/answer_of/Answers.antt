@@ -1,5 +1,4 @@
 -- `answer_of` gives the rules' `answer_of`: by the cases of the verdict. Assumes nothing.
-use borrow.Author.Rules.{rules}
 use Rattle.table.proofs.answers.answer_of.Goals as goal
 
 pub returns-in-Clear : goal.returns-in-Clear

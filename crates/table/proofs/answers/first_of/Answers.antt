@@ -1,6 +1,5 @@
 -- `first_of` gives the rules' `first_of`: by the cases of the first verdict. Assumes nothing.
 use Rattle.machine.specs.Answers.{first_of}
-use borrow.Author.Rules.{rules}
 use Rattle.table.proofs.answers.first_of.Goals as goal
 
 pub returns-in-Clear : goal.returns-in-Clear

@@ -1,5 +1,4 @@
 -- `configuration_line` is line 64, once the lengths are tested. Assumes nothing.
-use borrow.Author.Rules.{rules}
 use Rattle.table.proofs.numbers.configuration_line.Goals as goal
 
 pub returns : goal.returns

@@ -1,5 +1,4 @@
 -- `lengths_valid` is the rules' test, once the number of units is the quotient. Assumes nothing.
-use borrow.Author.Rules.{rules}
 use Rattle.table.proofs.numbers.lengths_valid.Goals as goal
 
 pub returns : goal.returns

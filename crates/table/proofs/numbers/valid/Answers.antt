@@ -1,6 +1,5 @@
 -- `valid` is the first of lines 64 and 65: line 64 where it stops, else line 65. Assumes nothing.
 use mathlib.Core.Path.{sym, ◌∙◌}
-use borrow.Author.Rules.{rules}
 use Rattle.machine.proofs.Verdicts.{stops_not, first_of_clear, first_of_stop}
 use Rattle.table.proofs.numbers.valid.Goals as goal
 

@@ -1,5 +1,4 @@
 -- `without_record` gives line 64 and then line 65. Assumes nothing.
-use borrow.Author.Rules.{rules}
 use Rattle.table.proofs.numbers.without_record.Goals as goal
 
 pub returns : goal.returns

@@ -1,0 +1,24 @@
+-- `iske` is the step of its instruction: refused where its lines stop, else what the operation leaves. Assumes nothing.
+use Rattle.machine.specs.declared.KeyInstruction.TheVariants.{Iske}
+use Rattle.machine.specs.KeyInstructions.{keys_left, code_left}
+use Rattle.key_instruction.proofs.Steps.{Judged, refused, keys_inside, operated}
+use Rattle.key_instruction.proofs.insert.iske.Goals as goal
+
+pub returns-then-stops : goal.returns-then-stops
+returns-then-stops c =
+    let judged : Judged _ c.args.storage.now c.args.keys.now c.args.p (Iske c.args.r1 c.args.r2) _ _ _ =
+    record { designates = c.block_4k-block.ensures; lines = c.extended_lines-found.ensures; asked = c.stops.ensures } in
+    rw c.answer_of.ensures (refused judged c.if-stops.true)
+
+pub insert-word-requires : goal.insert-word-requires
+insert-word-requires c =
+    let judged : Judged _ c.args.storage.now c.args.keys.now c.args.p (Iske c.args.r1 c.args.r2) _ _ _ =
+    record { designates = c.block_4k-block.ensures; lines = c.extended_lines-found.ensures; asked = c.stops.ensures } in
+    rw c.found_at-at.ensures (keys_inside judged c.if-stops.false)
+
+pub returns : goal.returns
+unfolding keys_left code_left
+returns c =
+    let judged : Judged _ c.args.storage.now c.args.keys.now c.args.p (Iske c.args.r1 c.args.r2) _ _ _ =
+    record { designates = c.block_4k-block.ensures; lines = c.extended_lines-found.ensures; asked = c.stops.ensures } in
+    rw (c.insert-word.ensures, c.found_at-at.ensures) (operated judged c.if-stops.false)

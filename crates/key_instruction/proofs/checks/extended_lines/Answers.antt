@@ -27,14 +27,10 @@ pub returns-then-storage_length-block : goal.returns-then-storage_length-block
 unfolding extended_lines first_line
 returns-then-storage_length-block c =
     first_two_pass _ _ c.valid-machine.ensures c.stops.ensures c.if-stops.false
-    (line_passes _ c.if-not-settings.false
-    (line_passes _ c.if-p.false
-    (line_stops _ _ (le-leb _ _ c.if-storage_length-block.true))))
+    (line_passes _ c.if-not-settings.false (line_passes _ c.if-p.false (line_stops _ _ (le-leb _ _ c.if-storage_length-block.true))))
 
 pub returns : goal.returns
 unfolding extended_lines first_line
 returns c =
     first_two_pass _ _ c.valid-machine.ensures c.stops.ensures c.if-stops.false
-    (line_passes _ c.if-not-settings.false
-    (line_passes _ c.if-p.false
-    (line_passes _ (lt-leb _ _ c.if-storage_length-block.false) refl)))
+    (line_passes _ c.if-not-settings.false (line_passes _ c.if-p.false (line_passes _ (lt-leb _ _ c.if-storage_length-block.false) refl)))

@@ -1,13 +1,8 @@
 -- `set` leaves the rules' keys: by whether it is one key or two. Assumes nothing.
-use native.Mathlib.Omega.{arith}
 use Rattle.machine.specs.Key.{key_in_word}
-use lib.ListN.{length-set}
 use Rattle.machine.specs.KeyInstructions.{keys_left}
 use Rattle.key_instruction.proofs.Keys.{one_key, two_keys_lem}
 use Rattle.key_instruction.proofs.operations.set.Goals as goal
-
-pub bounds-keys-u-then-two : goal.bounds-keys-u-then-two
-bounds-keys-u-then-two c = simp length-set (omega (arith, c.requires.1 c.if-two.true))
 
 pub returns-then-two : goal.returns-then-two
 unfolding keys_left

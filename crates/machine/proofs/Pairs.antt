@@ -27,10 +27,10 @@ use Rattle.machine.proofs.AnswerRule.{refused_rule}
 
 -- Lists by lookup.
 module _ {A : Type 0} where
-  pub lookup_get_d : (xs : List A) (n : ℕ) (d : A) → n < length xs → get_elem? xs n ≡ some (get_or xs n d)
-  lookup_get_d [] n d h = absurd (omega arith)
-  lookup_get_d (x ∷ xs) zero d h = refl
-  lookup_get_d (x ∷ xs) (suc n) d h = lookup_get_d xs n d (le_of_suc-le-suc h)
+  pub lookup_get_or : (xs : List A) (n : ℕ) (d : A) → n < length xs → get_elem? xs n ≡ some (get_or xs n d)
+  lookup_get_or [] n d h = absurd (omega arith)
+  lookup_get_or (x ∷ xs) zero d h = refl
+  lookup_get_or (x ∷ xs) (suc n) d h = lookup_get_or xs n d (le_of_suc-le-suc h)
 
   pub lookup_other : (xs : List A) (n m : ℕ) (v : A) → m ≢ n → get_elem? (set xs n v) m ≡ get_elem? xs m
   lookup_other [] n m v d = refl

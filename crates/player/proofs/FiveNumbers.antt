@@ -32,7 +32,7 @@ use Rattle.machine.proofs.Sentences.{Line64, Line65, Line1, Line2, Line19, Line4
 use Rattle.machine.proofs.Refusals.{refused_64, refused_65, refused_1, refused_2, refused_19, refused_4}
 use Rattle.machine.proofs.Requests.{by_verdict, completed_number, refused_by_table, controls_stay}
 use Rattle.machine.proofs.OwnRecord.{record_stays_valid}
-use Rattle.machine.proofs.Pairs.{by_record, has_record, lookup-get_d}
+use Rattle.machine.proofs.Pairs.{by_record, has_record, lookup_get_or}
 use Rattle.trace.specs.declared.Read.{Read}
 use Rattle.trace.specs.declared.Read.TheVariants.{Request as ARequest, Remark, Bad, End}
 use Rattle.trace.specs.Trace.{read_of}
@@ -188,7 +188,7 @@ module _ (m : State) (t : Turn) (kept : Kept m) where
       found : record_of m.processors t.processor_number ≡ some (get_or m.processors t.processor_number start_processor)
       found =
           rw (lt-ltb t.processor_number 2 h)
-          (lookup-get_d m.processors t.processor_number start_processor (omega (arith, kept.pair)))
+          (lookup_get_or m.processors t.processor_number start_processor (omega (arith, kept.pair)))
 
 -- The run.
 kept_at_start : Kept start_state

@@ -15,7 +15,7 @@ use Rattle.machine.specs.Answers.{answer_of}
 use Rattle.machine.specs.Step.{outcome, step}
 use Rattle.machine.specs.Pair.{put_back, without_record}
 use Rattle.machine.specs.Conditions.{Condition1, Condition2}
-use Rattle.machine.proofs.Pairs.{lookup-get_d, own_step, other_number_refused}
+use Rattle.machine.proofs.Pairs.{lookup_get_or, own_step, other_number_refused}
 use Rattle.machine.proofs.Conditions.{condition_1}
 
 module _ (s : Settings) (storage keys : List ℕ) (ps : List Processor) (n : ℕ) (r : Request) (buffer : List ℕ) where
@@ -37,7 +37,7 @@ module _ (s : Settings) (storage keys : List ℕ) (ps : List Processor) (n : ℕ
         both (set ps n q) (ap (put_back ps n) e ∙ sym (own_step s storage keys ps n r buffer p own))
       where
         own : record_of ps n ≡ some p
-        own = rw (lt-ltb n 2 small, found) (lookup-get_d ps n d inside)
+        own = rw (lt-ltb n 2 small, found) (lookup_get_or ps n d inside)
 
   -- and a number that isn't 0 or 1
   pub both_without_record : (answer : Answer) → answer ≡ answer_of (without_record s (length storage) (length keys)) 0 0 → 2 ≤ n

@@ -1,7 +1,7 @@
 -- One CCW, line by line: which refusal stands where a line holds and those above it do not, and what is done where none holds. Each law takes
 -- what the tests and calls gave as its hypotheses; a refusal leaves all but the progress.
 -- Assumes nothing.
-use Prim.Native.Nat.{ℕ, ◌+◌, ◌-◌, ◌%◌, ◌<◌, ◌≤◌}
+use Prim.Native.Nat.{ℕ, ◌+◌, ◌%◌, ◌<◌, ◌≤◌}
 use mathlib.Core.Path.{◌≡◌, refl, sym, ap, ◌∙◌}
 use mathlib.Core.Bool.{Bool, true, false, not, ◌||◌}
 use mathlib.Core.List.{List}

@@ -135,7 +135,7 @@ module _ (s : Settings) (q : ChannelRequest) (from_device storage keys room : Li
 -- the progress of a request under way, copied part by part, is that progress
 pub copied : (q : ChannelRequest) (g : ChannelProgress) {copy : ChannelProgress} → Entered q g
     → copy ≡ under_way g.state.ccw g.state.chaining g.state.taken g.state.given g.fetched → copy ≡ g
-copied q g entered made = made ∙ rw (← entered.under_way_lem) refl
+copied q g entered made = made ∙ rw (← entered.under_way) refl
 
 -- A chain of CCWs that began with so many fetched: the run from what it left is the same, and it goes on, or has ended later. A CCW was
 -- fetched where a transfer in channel may stand.
@@ -166,7 +166,7 @@ module _ (s : Settings) (q : ChannelRequest) (from_device : List ℕ) where
   chain_begins c entered =
       record {
         same = refl;
-        stands = λ e. entered.under_way_lem;
+        stands = λ e. entered.under_way;
         within = λ e. entered.within;
         later = λ e. omega arith;
         followed = λ e allowed. absurd (not_both allowed entered.placed);
@@ -206,7 +206,7 @@ module _ (s : Settings) (q : ChannelRequest) (from_device : List ℕ) where
                 more = λ stands. omega (arith, (counted_on stands).0, before_transfer_lem e stands);
                 entered = λ stands.
                     record {
-                      under_way_lem = stands;
+                      under_way = stands;
                       placed = ap transfer_allowed (by_transfer_lem e stands);
                       within = omega (arith, (counted_on stands).0, (counted_on stands).1);
                     };
@@ -239,7 +239,7 @@ module _ (s : Settings) (q : ChannelRequest) (from_device storage keys room : Li
 
 -- A request begins under way, with no CCW fetched, and its first CCW may be no transfer in channel.
 pub begun_entered : (q : ChannelRequest) {g : ChannelProgress} → g ≡ begun q → Entered q g
-begun_entered q begins = rw begins (record { under_way_lem = refl; placed = refl; within = omega arith })
+begun_entered q begins = rw begins (record { under_way = refl; placed = refl; within = omega arith })
 
 -- A whole request: its outcome, and what follows of its count.
 module _ (s : Settings) (q : ChannelRequest) (from_device storage keys room : List ℕ) where

@@ -74,7 +74,7 @@ chains_on UnderWay Ended = true
 
 -- control has come to a CCW that may be no transfer in channel, the first or one that a transfer named, with no more CCWs fetched than are granted
 pub record Entered (q : ChannelRequest) (g : ChannelProgress) : Type 0 where
-  pub under_way_lem : g.standing ≡ UnderWay
+  pub under_way : g.standing ≡ UnderWay
   pub placed : transfer_allowed g.state.chaining ≡ false
   pub within : g.fetched ≤ q.grant
 

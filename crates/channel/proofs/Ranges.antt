@@ -39,7 +39,8 @@ module _ (s : Settings) (kind : AccessKind) (access_key : ℕ) (keys : List ℕ)
   permits_as_ruled : (u : ℕ) → permits allowed (get_or keys u 0) ≡ permitted kind access_key (get_or keys u 0)
   permits_as_ruled u = rw asked (permits_permitted kind access_key (get_or keys u 0) (bytes u))
 
-  module _ (start count : ℕ) (positive : 0 < count) (first last : ℕ) (first_is : first ≡ unit_of s start) (last_is : last ≡ unit_of s (start + (count - 1))) where
+  module _ (start count : ℕ) (positive : 0 < count) (first last : ℕ) (first_is : first ≡ unit_of s start)
+      (last_is : last ≡ unit_of s (start + (count - 1))) where
     by_unit : units_forbid allowed keys first (last + 1 - first) ≡ range_forbidden s kind access_key keys start count
     unfolding range_forbidden units_forbid
     by_unit =

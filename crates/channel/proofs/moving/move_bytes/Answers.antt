@@ -5,7 +5,7 @@ use native.Mathlib.Omega.{arith}
 use native.Mathlib.Nat.{le_antisymm}
 use Rattle.machine.specs.Lists.{written}
 use Rattle.machine.specs.Channel.{bytes_moved}
-use Rattle.machine.proofs.Written.{kept_length, one_more, held_then_written}
+use Rattle.machine.proofs.Written.{one_more, held_then_written}
 use Rattle.channel.proofs.moving.move_bytes.Goals as goal
 
 pub loop-i-init : goal.loop-i-init
@@ -19,14 +19,8 @@ pub loop-j-init : goal.loop-j-init
 unfolding written
 loop-j-init c = (omega arith, refl)
 
-pub bounds-target-at : goal.bounds-target-at
-bounds-target-at c = omega (arith, kept_length _ _ _ _ _ c.loop-j.invariant.1)
-
 pub loop-j-preserved : goal.loop-j-preserved
 loop-j-preserved c = (omega arith, one_more _ _ _ _ _ c.loop-j.invariant.1)
-
-pub shape_of-target : goal.shape_of-target
-shape_of-target c = kept_length _ _ _ _ _ c.loop-j.invariant.1
 
 pub returns : goal.returns
 unfolding bytes_moved

@@ -1,8 +1,8 @@
 -- `next_ccw` tests the lines in their order; the CCW that it fetches lies in one unit, whose key it reads and writes once. Assumes nothing.
-use mathlib.Core.Path.{refl, ◌∙◌}
+use mathlib.Core.Path.{refl}
 use lib.ListN.{length-set}
 use Rattle.channel.proofs.Words.{fetched_counted}
-use Rattle.channel.proofs.Requests.{ccw_keyed, ccw_inside, still_passed}
+use Rattle.channel.proofs.Requests.{ccw_inside, still_passed}
 use Rattle.channel.proofs.Ccws.{used_up, misplaced, forbidden, fetched}
 use Rattle.channel.proofs.program.next_ccw.Goals as goal
 
@@ -14,32 +14,16 @@ pub returns-then-at-storage : goal.returns-then-at-storage
 returns-then-at-storage c =
     misplaced _ _ _ _ _ _ _ c.requires c.if-request-progress.false c.refused-then-at-storage.ensures c.if-at-storage.true
 
-pub bounds-keys-unit : goal.bounds-keys-unit
-bounds-keys-unit c =
-    ccw_keyed c.requires _ c.if-at-storage.false c.unit_of-unit.ensures
-
 pub returns-then-not-permitted : goal.returns-then-not-permitted
 returns-then-not-permitted c =
     forbidden _ _ _ _ _ _ _ c.requires c.if-request-progress.false c.if-at-storage.false c.unit_of-unit.ensures c.refused-then-not-permitted.ensures
     c.permitted.ensures c.if-not-permitted.true
-
-pub bounds-keys-unit-2 : goal.bounds-keys-unit-2
-bounds-keys-unit-2 c =
-    ccw_keyed c.requires _ c.if-at-storage.false c.unit_of-unit.ensures
-
-pub ccw_at-requires : goal.ccw_at-requires
-ccw_at-requires c =
-    ccw_inside _ _ c.if-at-storage.false
 
 pub obey-requires : goal.obey-requires
 obey-requires c =
     let passed = still_passed c.requires refl (length-set c.args.keys.now _ _) in
     let asked = fetched_counted _ _ c.ccw_at.ensures c.operation_of-operation.ensures in
     record { passed = passed; ccw_in_bounds = (rw c.counted-fetched.ensures (ccw_inside _ _ c.if-at-storage.false), asked) }
-
-pub shape_of-keys : goal.shape_of-keys
-shape_of-keys c =
-    c.obey.auto.keys ∙ length-set c.args.keys.now _ _
 
 pub returns : goal.returns
 returns c =

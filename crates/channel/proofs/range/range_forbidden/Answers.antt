@@ -21,8 +21,7 @@ pub returns-then-not-permits : goal.returns-then-not-permits
 returns-then-not-permits c =
     unit_forbids c.args.settings c.args.kind _ _ (λ u. omega (arith, c.type_inv.keys u)) _
     c.permissions-allowed.ensures _ _ (omega arith) _ _ c.unit_of-first.ensures c.unit_of-last.ensures _
-    c.loop-passed-test.true c.permits-in-loop-passed.ensures
-    c.if-not-permits.true
+    (omega arith) c.permits-in-loop-passed.ensures c.if-not-permits.true
 
 pub loop-passed-preserved : goal.loop-passed-preserved
 loop-passed-preserved c =

@@ -3,7 +3,6 @@
 use mathlib.Core.Path.{refl}
 use native.Mathlib.Omega.{arith}
 use Rattle.machine.specs.Lists.{written}
-use Rattle.machine.proofs.Written.{kept_length}
 use Rattle.channel.proofs.Ranges.{units_in_order, one_unit_recorded, range_recorded_lem, recorded_more}
 use Rattle.channel.proofs.range.record_range.Goals as goal
 
@@ -17,18 +16,9 @@ unfolding written
 loop-done-init c =
     (omega (arith, units_in_order c.args.settings _ _ _ _ (omega arith) c.unit_of-first.ensures c.unit_of-last.ensures), refl)
 
-pub bounds-keys-first-in-loop-done : goal.bounds-keys-first-in-loop-done
-bounds-keys-first-in-loop-done c = omega (arith, kept_length _ _ _ _ _ c.loop-done.invariant.1)
-
-pub bounds-keys-first-in-loop-done-2 : goal.bounds-keys-first-in-loop-done-2
-bounds-keys-first-in-loop-done-2 c = omega (arith, kept_length _ _ _ _ _ c.loop-done.invariant.1)
-
 pub loop-done-preserved : goal.loop-done-preserved
 loop-done-preserved c =
     (omega arith, recorded_more c.args.kind _ _ _ _ c.loop-done.invariant.1 c.recorded-in-loop-done.ensures)
-
-pub shape_of-keys : goal.shape_of-keys
-shape_of-keys c = kept_length _ _ _ _ _ c.loop-done.invariant.1
 
 pub returns : goal.returns
 returns c =

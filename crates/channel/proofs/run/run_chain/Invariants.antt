@@ -11,7 +11,9 @@ use Rattle.channel.proofs.run.run_chain.Given as goal
 abbrev pub invariant-loop-more : goal.invariant-loop-more
 invariant-loop-more l =
     (length l.storage ≡ length l.initial.storage) × (length l.keys ≡ length l.initial.keys) × (length l.room ≡ length l.initial.room)
-    × Chain l.settings l.request l.from_device l.initial.progress.fetched (channel l.initial.storage l.initial.keys l.initial.room l.initial.progress) (channel l.storage l.keys l.room l.progress) l.more
+    × Chain l.settings l.request l.from_device l.initial.progress.fetched
+    (channel l.initial.storage l.initial.keys l.initial.room l.initial.progress)
+    (channel l.storage l.keys l.room l.progress) l.more
 
 abbrev pub decreases-loop-more : goal.decreases-loop-more
 decreases-loop-more l =

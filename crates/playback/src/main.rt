@@ -8,6 +8,7 @@ ghost use Rattle.player.specs.Run.{start_settings};
 
 use machine::Settings;
 use player::{Player, Status, play, start};
+use std::io::Read;
 
 // How many bytes of a recording are held, and how many bytes of text. The text of all records that a piece can hold has room: a request
 // takes ten bytes at least, and a line less than 64.
@@ -44,16 +45,17 @@ struct Came {
 }
 
 // Reads behind the bytes that are held.
-fn fill(input: &mut [u8], held: usize) -> Came
+fn fill(reader: &mut impl Read, input: &mut [u8], held: usize) -> Came
     requires { held ≤ length input.old }
     ensures { (held ≤ result.held) × (result.held ≤ length input.new) × (take held input.new ≡ take held input.old) }
 {
     let part = &mut input[held..];
-    let got = libc::read(0, part);
-    let more = io::count(got, part);
-    Came {
-        held: held + more,
-        failed: got < 0,
+    match reader.read(part) {
+        Ok(more) => Came {
+            held: held + more,
+            failed: false,
+        },
+        Err(_) => Came { held, failed: true },
     }
 }
 
@@ -83,6 +85,7 @@ fn is_ended(status: Status) -> bool {
 
 // Plays what is held and writes the lines. `last`: nothing comes behind it.
 fn play_held(
+    rt: &(impl Print + Eprint),
     storage: &mut [u8],
     keys: &mut [u8],
     input: &mut [u8],
@@ -105,9 +108,9 @@ fn play_held(
     );
     let next = played.player;
     let status = played.status;
-    let written = io::write_all(1, &output[..played.written]);
+    let written = rt.write_all(&output[..played.written]).is_ok();
     if !written {
-        io::write_all(2, b"playback: writing failed\n");
+        let _ = eprintln!(rt; "playback: writing failed");
     }
     let rest = keep(input, played.read, held);
     Going {
@@ -120,6 +123,8 @@ fn play_held(
 // One turn: bytes are read and what is held is played. Nothing comes behind it where there was room for more and none came. Where reading
 // fails, it is not known what comes, and the run is given up.
 fn turn(
+    rt: &(impl Print + Eprint),
+    reader: &mut impl Read,
     storage: &mut [u8],
     keys: &mut [u8],
     input: &mut [u8],
@@ -130,9 +135,9 @@ fn turn(
     requires { held ≤ length input.old }
     ensures { result.held ≤ length input.new }
 {
-    let came = fill(input, held);
+    let came = fill(reader, input, held);
     if came.failed {
-        io::write_all(2, b"playback: reading failed\n");
+        let _ = eprintln!(rt; "playback: reading failed");
         return Going {
             player,
             held,
@@ -140,20 +145,30 @@ fn turn(
         };
     }
     let last = (came.held == held) & (held < input.len());
-    play_held(storage, keys, input, output, player, came.held, last)
+    play_held(rt, storage, keys, input, output, player, came.held, last)
 }
 
 // The run of a recording, from the start that 02 fixes.
-fn run(storage: &mut [u8], keys: &mut [u8])
+fn run(rt: &(impl Input + Print + Eprint), storage: &mut [u8], keys: &mut [u8])
     requires { (storage.old ≡ replicate 65536 0) × (keys.old ≡ replicate 32 0) }
 {
+    let mut reader = rt.reader();
     let mut input = [0u8; PIECE];
     let mut output = [0u8; TEXT];
     let mut player = start();
     let mut held = 0;
     let mut turns: u64 = 0;
     while turns < TURNS {
-        let next = turn(storage, keys, &mut input, &mut output, player, held);
+        let next = turn(
+            rt,
+            &mut reader,
+            storage,
+            keys,
+            &mut input,
+            &mut output,
+            player,
+            held,
+        );
         if next.ended {
             return;
         }
@@ -163,8 +178,8 @@ fn run(storage: &mut [u8], keys: &mut [u8])
     }
 }
 
-fn main() {
+fn main(rt: HostRuntime) {
     let mut storage = [0u8; 65536];
     let mut keys = [0u8; 32];
-    run(&mut storage, &mut keys);
+    run(&rt, &mut storage, &mut keys);
 }

@@ -119,7 +119,7 @@ impl Case {
 
     // What the request answers, and what it leaves in its record and in the first two keys.
     pub(crate) fn seen(self) -> Seen {
-        let mut storage = io::large_buffer();
+        let mut storage = [0u8; 65536];
         let mut keys = self.key_array();
         let mut buffer = [BYTE; 300];
         let reply = self.perform(&mut storage, &mut keys, &mut buffer);
@@ -136,8 +136,8 @@ impl Case {
 
     // The first absolute address at which the request changes storage; the length of storage where it changes none.
     pub(crate) fn absolute(self) -> usize {
-        let before = io::large_buffer();
-        let mut storage = io::large_buffer();
+        let before = [0u8; 65536];
+        let mut storage = [0u8; 65536];
         let mut keys = self.key_array();
         let mut buffer = [BYTE; 300];
         self.perform(&mut storage, &mut keys, &mut buffer);
@@ -146,8 +146,8 @@ impl Case {
 
     // Storage, keys, both records and the buffer are as they were.
     pub(crate) fn unchanged(self) -> bool {
-        let before = io::large_buffer();
-        let mut storage = io::large_buffer();
+        let before = [0u8; 65536];
+        let mut storage = [0u8; 65536];
         let mut keys = self.key_array();
         let mut buffer = [BYTE; 300];
         let reply = self.perform(&mut storage, &mut keys, &mut buffer);

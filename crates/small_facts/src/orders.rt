@@ -6,6 +6,7 @@ use crate::case::{processor, settings};
 use crate::compare::{difference, same_answers, same_records};
 use crate::show::number;
 use machine::{AccessKind, Processor, Reply, Request};
+use std::io;
 
 // A turn: the processor with this number stores a byte at a real address.
 #[derive(Clone, Copy)]
@@ -46,8 +47,8 @@ fn take(turn: Turn, storage: &mut [u8], keys: &mut [u8], processors: [Processor;
 
 // The first absolute address that a turn alone changes; the length of storage where it changes none.
 fn absolute(turn: Turn) -> usize {
-    let before = io::large_buffer();
-    let mut storage = io::large_buffer();
+    let before = [0u8; 65536];
+    let mut storage = [0u8; 65536];
     let mut keys = [0u8; 32];
     take(turn, &mut storage, &mut keys, pair());
     difference(&before, &storage)
@@ -109,10 +110,10 @@ fn in_order(a: usize, b: usize, c: usize, d: usize, storage: &mut [u8], keys: &m
 fn agrees(a: usize, b: usize, c: usize, d: usize) -> bool
     requires { (a < 4) × (b < 4) × (c < 4) × (d < 4) }
 {
-    let mut storage_first = io::large_buffer();
+    let mut storage_first = [0u8; 65536];
     let mut keys_first = [0u8; 32];
     let first = in_order(0, 1, 2, 3, &mut storage_first, &mut keys_first);
-    let mut storage = io::large_buffer();
+    let mut storage = [0u8; 65536];
     let mut keys = [0u8; 32];
     let end = in_order(a, b, c, d, &mut storage, &mut keys);
     let records_first = first.processors;
@@ -126,24 +127,24 @@ fn agrees(a: usize, b: usize, c: usize, d: usize) -> bool
 }
 
 // Fact 19.
-pub(crate) fn disjoint() {
-    number(b"19 absolute ", absolute(turn_of(0)));
-    number(b"; ", absolute(turn_of(2)));
+pub(crate) fn disjoint(rt: &impl Print) -> io::Result<()> {
+    number(rt, b"19 absolute ", absolute(turn_of(0)))?;
+    number(rt, b"; ", absolute(turn_of(2)))?;
     if agrees(0, 2, 1, 3)
         & agrees(0, 2, 3, 1)
         & agrees(2, 0, 1, 3)
         & agrees(2, 0, 3, 1)
         & agrees(2, 3, 0, 1)
     {
-        io::write_all(1, b" six orders agree\n");
+        rt.write_all(b" six orders agree\n")
     } else {
-        io::write_all(1, b" orders differ\n");
+        rt.write_all(b" orders differ\n")
     }
 }
 
 // What stands at absolute 0 after two turns.
 fn left_by(first: Turn, second: Turn) -> u8 {
-    let mut storage = io::large_buffer();
+    let mut storage = [0u8; 65536];
     let mut keys = [0u8; 32];
     let reply = take(first, &mut storage, &mut keys, pair());
     let processors = reply.processors;
@@ -152,7 +153,7 @@ fn left_by(first: Turn, second: Turn) -> u8 {
 }
 
 // Fact 20.
-pub(crate) fn shared() {
+pub(crate) fn shared(rt: &impl Print) -> io::Result<()> {
     let first = Turn {
         processor_number: 0,
         address: 0,
@@ -163,12 +164,13 @@ pub(crate) fn shared() {
         address: 4096,
         byte: 2,
     };
-    number(b"20 absolute ", absolute(first));
-    number(b"; ", absolute(second));
+    number(rt, b"20 absolute ", absolute(first))?;
+    number(rt, b"; ", absolute(second))?;
     number(
+        rt,
         b" first then second leaves ",
         left_by(first, second) as usize,
-    );
-    number(b"; second then first ", left_by(second, first) as usize);
-    io::write_all(1, b"\n");
+    )?;
+    number(rt, b"; second then first ", left_by(second, first) as usize)?;
+    rt.write_all(b"\n")
 }

@@ -28,7 +28,7 @@ use Rattle.machine.specs.Channel.{begun, steps, ChannelOutcome, outcome_in, chan
 use Rattle.machine.specs.Conditions.{ChannelCondition1}
 use Rattle.machine.proofs.Verdicts.{neither, not_both}
 use Rattle.machine.proofs.ChannelSteps.{channel_condition_1}
-use Rattle.channel.specs.Requests.{Passed, Entered, Later, chains_on, standing_by, reply_of, run_from}
+use Rattle.channel.specs.Requests.{Passed, Entered, Later, chains_on, under_way, standing_by, reply_of, run_from}
 use Rattle.machine.proofs.ChannelSteps.{no_line, step_under_way, step_answered}
 use Rattle.machine.proofs.ChannelRuns.{not_under_way, refused_before, refused_unfetched, still_under_way, transfer_placed}
 use Rattle.machine.proofs.ChannelRuns.{first_of_steps, answered_stays, steps_count, steps_within}
@@ -132,6 +132,11 @@ module _ (s : Settings) (q : ChannelRequest) (from_device storage keys room : Li
             )
             refl
 
+-- the progress of a request under way, copied part by part, is that progress
+pub copied : (q : ChannelRequest) (g : ChannelProgress) {copy : ChannelProgress} → Entered q g
+    → copy ≡ under_way g.state.ccw g.state.chaining g.state.taken g.state.given g.fetched → copy ≡ g
+copied q g entered made = made ∙ rw (← entered.under_way) refl
+
 -- A chain of CCWs that began with so many fetched: the run from what it left is the same, and it goes on, or has ended later. A CCW was
 -- fetched where a transfer in channel may stand.
 pub record Chain (s : Settings) (q : ChannelRequest) (from_device : List ℕ) (fetched : ℕ) (start c : Channel) (more : Bool) : Type 0 where
@@ -157,10 +162,20 @@ ends_by_transfer UnderWay Ended e stands = absurd (not_both refl e)
 ends_by_transfer (Answered answer) chaining e stands = absurd (not_under_way refl stands)
 
 module _ (s : Settings) (q : ChannelRequest) (from_device : List ℕ) where
+  pub chain_begins : (c : Channel) → Entered q c.progress → Chain s q from_device c.progress.fetched c c true
+  chain_begins c entered =
+      record {
+        same = refl;
+        stands = λ e. entered.under_way;
+        within = λ e. entered.within;
+        later = λ e. omega arith;
+        followed = λ e allowed. absurd (not_both allowed entered.placed);
+        ended = λ e. absurd (not_both refl e);
+      }
+
   module _ (fetched : ℕ) (start : Channel) (storage keys room : List ℕ) (g : ChannelProgress) {more : Bool}
       (chain : Chain s q from_device fetched start (channel storage keys room g) more) (on : more ≡ true)
-      {storage' keys' room' : List ℕ} {next : ChannelProgress}
-      (did : channel storage' keys' room' next ≡ next_ccw s q from_device (channel storage keys room g))
+      {storage' keys' room' : List ℕ} {next : ChannelProgress} (did : channel storage' keys' room' next ≡ next_ccw s q from_device (channel storage keys room g))
       {more' : Bool} (more_is : more' ≡ chains_on next.standing next.state.chaining) where
     counted_on : next.standing ≡ UnderWay → (next.fetched ≡ 1 + g.fetched) × (g.fetched < q.grant)
     counted_on stands = next_fetched s q from_device storage keys room g (chain.stands on) (chain.within on) did stands
@@ -209,7 +224,7 @@ module _ (s : Settings) (q : ChannelRequest) (from_device : List ℕ) where
             let within : g.fetched ≤ q.grant = chain.within on in
             omega arith
 
--- The run from what a chain left, where it has answered.
+-- The run from what a chain left, where it has answered, and where it goes on.
 module _ (s : Settings) (q : ChannelRequest) (from_device storage keys room : List ℕ) (g : ChannelProgress) {end : ChannelOutcome}
     (same : run_from s q from_device (channel storage keys room g) ≡ end) where
   pub run_ends : {answer : ChannelAnswer} {reply : ChannelReply} → g.standing ≡ Answered answer → reply ≡ reply_of g answer
@@ -218,6 +233,9 @@ module _ (s : Settings) (q : ChannelRequest) (from_device storage keys room : Li
   run_ends done replied =
       let stays = answered_stays s q from_device (q.grant + 1 - g.fetched) (channel storage keys room g) done in
       rw replied (rw (stays, done) at same)
+
+  pub run_goes_on : {further : ChannelOutcome} → further ≡ run_from s q from_device (channel storage keys room g) → further ≡ end
+  run_goes_on goes = goes ∙ same
 
 -- A request begins under way, with no CCW fetched, and its first CCW may be no transfer in channel.
 pub begun_entered : (q : ChannelRequest) {g : ChannelProgress} → g ≡ begun q → Entered q g

@@ -5,7 +5,7 @@
 //! remarks. Each player is a process of its own. It reads the recording from a file, then from a
 //! pipe, and its lines go to /dev/null; once they are compared.
 //!
-//! Run it with `cargo run --release --example playing`, after `rt check playback` in the
+//! Run it with `cargo run --release --example playing`, after `host/playback` in the
 //! repository. `STORAGE_UNIT_PLAYBACK` names another program, `STORAGE_UNIT_BYTES` sets the length
 //! of the recording, `STORAGE_UNIT_RUNS` how often each player is run, `STORAGE_UNIT_SEED` the
 //! seed. With the word `plain` it is the ordinary player itself; with `write`, it writes the
@@ -247,7 +247,7 @@ fn playback() -> Result<PathBuf, Failure> {
         return Ok(program);
     }
     let shown = program.display();
-    Err(format!("there is no program {shown}; `rt check playback` writes it").into())
+    Err(format!("there is no program {shown}; `host/playback` writes it").into())
 }
 
 /// Makes a recording, compares both players on it, and times them.

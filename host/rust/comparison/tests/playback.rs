@@ -1,7 +1,7 @@
 //! The program `playback` against the player of the reference: recordings from a pipe, written
 //! whole, in pieces and one byte at a time.
 //!
-//! The program is the file that `STORAGE_UNIT_PLAYBACK` names, or that which `rt check playback`
+//! The program is the file that `STORAGE_UNIT_PLAYBACK` names, or that which `host/playback`
 //! writes in the repository.
 
 mod support;
@@ -29,7 +29,7 @@ static PROGRAM: LazyLock<PathBuf> = LazyLock::new(|| {
     let program = PathBuf::from(env!("CARGO_MANIFEST_DIR")).join(file);
     assert!(
         program.is_file(),
-        "there is no program {}; `rt check playback` in the repository writes it, or set \
+        "there is no program {}; `host/playback` in the repository writes it, or set \
          {VARIABLE} to its absolute path",
         program.display()
     );

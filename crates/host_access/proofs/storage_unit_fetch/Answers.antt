@@ -28,11 +28,12 @@ returns-then-not-state_valid c =
 pub returns : goal.returns
 unfolding accessed
 returns c =
+    let a = c.args in
     let valid = rw (c.state_valid.ensures, c.state_in-state.ensures) at c.if-not-state_valid.false in
     let words = rw (c.state_in-state.ensures, c.prefix_in.ensures) at c.record_of-p.ensures in
-    let own = words ∙ record_read_lem c.args.«record» (omega (arith, c.ranges.«record»)) valid in
+    let own = words ∙ record_read_lem a.«record» (omega (arith, c.ranges.«record»)) valid in
     let stepped = rw own at c.fetch.ensures in
-    let met = served_access _ c.args.storage.now c.args.keys.now c.args.«record» Fetch c.args.address c.args.bytes.now c.fetch.result c.pack-2.ensures stepped in
+    let met = served_access _ a.storage.now a.keys.now a.«record» Fetch a.address a.bytes.now c.fetch.result c.pack-2.ensures stepped in
     record {
       condition_1 = met.0;
       condition_2 = rw (lt-ltb _ _ c.if-settings-ge4.false, ← c.settings_of-machine.ensures) met.1;

@@ -1,17 +1,12 @@
 -- What is no request: a remark, a bad record and the end of the bytes leave what the definitions say. Assumes nothing.
 use Prim.Native.Nat.{ℕ}
-use native.Mathlib.Omega.{arith}
 use mathlib.Core.Path.{◌≡◌, refl, ap}
 use mathlib.Core.Bool.{Bool, true, false, ◌||◌}
-use mathlib.Core.List.{List, [], ◌∷◌}
-use mathlib.Core.Logic.{⊎_elim}
+use mathlib.Core.List.{List, []}
 use lib.ListN.{length}
-use types.Run.{OneOf}
-use denote.Enum.Declared.{tag_of}
 use Rattle.machine.specs.declared.Settings.{Settings}
 use Rattle.machine.specs.declared.Request.{Request}
 use Rattle.machine.proofs.Verdicts.{not_both}
-use Rattle.trace.specs.contracts.Read.{the_type}
 use Rattle.trace.specs.declared.Read.{Read}
 use Rattle.trace.specs.declared.Read.TheVariants.{Request as ARequest, Remark, Bad, End}
 use Rattle.player.specs.declared.Player.{Player}
@@ -21,11 +16,8 @@ use Rattle.player.specs.Text.{over, bad_text}
 use Rattle.player.specs.Run.{Progress, after_other}
 use Rattle.player.specs.Play.{progress_of, left, judged, bad_played, end_played, is_request, read_played, play_outcome, play_outcome_of}
 
-none_is_0 : OneOf (1 ∷ 2 ∷ 3 ∷ []) 0 → ⊥
-none_is_0 = ⊎_elim (λ e. omega arith) (⊎_elim (λ e. omega arith) (λ e. omega arith))
-
-pub no_request : (found : Read) → OneOf (1 ∷ 2 ∷ 3 ∷ []) (tag_of the_type found) → is_request found ≡ false
-no_request (ARequest n r size) h = absurd (none_is_0 h)
+pub no_request : (found : Read) → ((n : ℕ) (r : Request) (size : ℕ) → found ≡ ARequest n r size → ⊥) → is_request found ≡ false
+no_request (ARequest n r size) h = absurd (h n r size refl)
 no_request (Remark size) h = refl
 no_request Bad h = refl
 no_request End h = refl

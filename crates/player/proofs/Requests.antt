@@ -2,13 +2,9 @@
 use Prim.Native.Nat.{ℕ, ◌+◌, ◌-◌, ◌≤◌}
 use native.Mathlib.Omega.{arith}
 use mathlib.Core.Path.{◌≡◌, refl, ap, ◌∙◌}
-use mathlib.Core.List.{List, [], ◌∷◌}
-use mathlib.Core.Logic.{⊎_elim}
+use mathlib.Core.List.{List}
 use lib.ListN.{length, take, drop, replicate, length-take, length-drop, length-replicate}
 use lib.Seq.{take_at}
-use types.Run.{OneOf}
-use denote.Enum.Declared.{tag_of}
-use Rattle.machine.specs.contracts.Request.{the_type}
 use Rattle.machine.specs.declared.Settings.{Settings}
 use Rattle.machine.specs.declared.Processor.{Processor}
 use Rattle.machine.specs.declared.Request.{Request}
@@ -33,12 +29,12 @@ use Rattle.player.specs.Play.{state_of, progress_of, request_played, PlayOutcome
 abbrev Lent : (r : ℕ) (buffer : List ℕ) (request : Request) (bytes : List ℕ) (size : ℕ) → Type 0
 Lent r buffer request bytes size = (r ≤ 512) × (take r buffer ≡ buffer_of request bytes size)
 
-no_access : OneOf (1 ∷ 2 ∷ []) 0 → ⊥
-no_access = ⊎_elim (λ e. omega arith) (λ e. omega arith)
+-- a request that is no access
+abbrev NoAccess : Request → Type 0
+NoAccess request = (kind : AccessKind) (address count : ℕ) → request ≡ Access kind address count → ⊥
 
-zeros_of : (request : Request) (bytes : List ℕ) (size : ℕ) → OneOf (1 ∷ 2 ∷ []) (tag_of the_type request)
-    → replicate 256 0 ≡ buffer_of request bytes size
-zeros_of (Access kind address count) bytes size h = absurd (no_access h)
+zeros_of : (request : Request) (bytes : List ℕ) (size : ℕ) → NoAccess request → replicate 256 0 ≡ buffer_of request bytes size
+zeros_of (Access kind address count) bytes size h = absurd (h kind address count refl)
 zeros_of (Key i) bytes size h = refl
 zeros_of (Prefix i) bytes size h = refl
 
@@ -46,7 +42,7 @@ taken : (buffer : List ℕ) → buffer ≡ replicate 512 0 → take 256 buffer �
 taken buffer e = rw e refl
 
 pub lent_zeros : (buffer : List ℕ) (request : Request) (bytes : List ℕ) (size : ℕ) → buffer ≡ replicate 512 0
-    → OneOf (1 ∷ 2 ∷ []) (tag_of the_type request) → Lent 256 buffer request bytes size
+    → NoAccess request → Lent 256 buffer request bytes size
 lent_zeros buffer request bytes size e h = (omega arith, taken buffer e ∙ zeros_of request bytes size h)
 
 pub lent_fetch : (buffer : List ℕ) (request : Request) (bytes : List ℕ) (size address count : ℕ) (kind : AccessKind)

@@ -25,13 +25,13 @@ module _ (settings : ℕ) (storage keys player piece : List ℕ) (last : ℕ) (o
     player_refused h = simp (lt-ltb _ _ few, ne_eqb _ _ h)
 
     module _ (sized : length player ≡ 48) (p : Player) (read : p ≡ player_in player) (s : Settings) (set : s ≡ settings_of settings) where
-      pub call_played : (r : Played) (storage' keys' output' player' : List ℕ) (result : ℕ)
+      pub call_played_lem : (r : Played) (storage' keys' output' player' : List ℕ) (result : ℕ)
           → play_outcome r storage' keys' output'
           ≡ play_outcome_of (played (length piece + 1) s (not (eqb last 0)) (length output) (progress_of p storage keys) piece) output
           → player' ≡ player_left r player
           → result ≡ status_number r.status
           → play_call result storage' keys' player' output' ≡ play_called settings storage keys player piece last output
       unfolding play_called
-      call_played r storage' keys' output' player' result e f g =
+      call_played_lem r storage' keys' output' player' result e f g =
           rw (f, g)
           (ap (λ (o : PlayOutcome). call_played o player) (rw (read, set) at e) ∙ rw (lt-ltb settings 4 few, eq-eqb (length player) 48 sized) refl)

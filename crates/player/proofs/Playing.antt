@@ -234,7 +234,8 @@ module _ (s : Settings) (last : Bool) (bytes output₀ : List ℕ) (p₀ : Progr
         ≡ play_outcome_of (played (length bytes + 1) s last (length output₀) p₀ bytes) output₀
     turn_stops e =
         let l : List ℕ = texts s last bytes output₀ p₀ output p at written n g some in
-        let ended : left l record_left_lem.progress (at + record_left_lem.read) record_left_lem.status ≡ played (length bytes + 1) s last (length output₀) p₀ bytes =
+        let ended : left l record_left_lem.progress (at + record_left_lem.read) record_left_lem.status
+        ≡ played (length bytes + 1) s last (length output₀) p₀ bytes =
         stops s last bytes output₀ p₀ output p at written n g some (passes_as false e) in
         let long : length l ≡ written + length record_left_lem.text = both s last bytes output₀ p₀ output p at written n g some in
         let lined : output_left ≡ over l output₀ = output_is s last bytes output₀ p₀ output p at written n g some output_left put in

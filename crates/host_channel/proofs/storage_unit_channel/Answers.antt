@@ -12,7 +12,8 @@ returns-then-settings-ge4 c = settings_refused _ _ _ _ _ _ _ _ c.if-settings-ge4
 pub returns-then-progress-ne-PROGRESS_LENGTH : goal.returns-then-progress-ne-PROGRESS_LENGTH
 unfolding channel_called
 returns-then-progress-ne-PROGRESS_LENGTH c =
-    progress_refused _ _ _ _ _ _ _ _ _ c.if-settings-ge4.false (ne_eqb _ _ c.if-progress-ne-PROGRESS_LENGTH.true) c.settings_of-machine.ensures c.progress_refused.ensures
+    progress_refused _ _ _ _ _ _ _ _ _ c.if-settings-ge4.false (ne_eqb _ _ c.if-progress-ne-PROGRESS_LENGTH.true)
+    c.settings_of-machine.ensures c.progress_refused.ensures
 
 pub returns : goal.returns
 returns c =

@@ -17,8 +17,7 @@ use table::answers::answer_of;
 use table::numbers::without_record;
 
 // The version of the boundary.
-#[unsafe(no_mangle)]
-pub extern "C" fn storage_unit_version() -> u32
+pub fn storage_unit_version() -> u32
     ensures { result ≡ version_number }
 {
     400
@@ -35,8 +34,7 @@ pub fn refused(settings: Settings, storage_length: usize, key_length: usize) -> 
 // `operation`: 0 fetch, 1 store, 2 ISK, 3 SSK, 4 RRB, 5 ISKE, 6 SSKE, 7 RRBE, 8 SET PREFIX, 9 STORE PREFIX. `first`: the real address of an
 // access, R1, or the word of SET PREFIX. `second`: the length of an access, R2, or the address of RRB. The result has the word in bits 0 to
 // 31 from the right, the place in bits 32 to 39, the rule in bits 40 to 47 and the number in bits 48 to 63.
-#[unsafe(no_mangle)]
-pub extern "C" fn storage_unit_request(
+pub fn storage_unit_request(
     settings: u32,
     storage: &mut [u8],
     keys: &mut [u8],

@@ -28,8 +28,7 @@ fn prefix_in(record: u64) -> u32
 
 // A fetch of as many bytes as `bytes` has. `settings`: 1 the 4K facility, 2 the extensions. `record`: the eight bytes of the processor's own
 // record, as one number, the least significant first. The result is that of `host::storage_unit_request`.
-#[unsafe(no_mangle)]
-pub extern "C" fn storage_unit_fetch(
+pub fn storage_unit_fetch(
     settings: u32,
     storage: &[u8],
     keys: &mut [u8],
@@ -59,8 +58,7 @@ pub extern "C" fn storage_unit_fetch(
 }
 
 // A store of all of `bytes`, which are only read. The other parameters and the result are those of `storage_unit_fetch`.
-#[unsafe(no_mangle)]
-pub extern "C" fn storage_unit_store(
+pub fn storage_unit_store(
     settings: u32,
     storage: &mut [u8],
     keys: &mut [u8],

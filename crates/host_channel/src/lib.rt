@@ -44,8 +44,7 @@ pub fn progress_refused(settings: Settings, storage_length: usize, key_length: u
 // A whole request. `settings`: 1 the 4K facility, 2 the extensions. `key`, `first`, `grant`: the channel's key, the address of the first CCW and
 // how many CCWs are granted. `from_device`: the bytes from the device; `room`: the room for bytes to it. `progress`: 32 bytes, in which the end
 // of the request is left. The result has the number in bits 48 to 63 from the right, all else zero.
-#[unsafe(no_mangle)]
-pub extern "C" fn storage_unit_channel(
+pub fn storage_unit_channel(
     settings: u32,
     storage: &mut [u8],
     keys: &mut [u8],

@@ -15,8 +15,7 @@ use machine::channel::ChannelRequest;
 
 // One step of a request, which is one CCW: the same operands at each step, and the progress as the step before left it, zeros at the start. While
 // the request is under way the result has the number 255; a step of a request that has answered changes nothing and gives the answer again.
-#[unsafe(no_mangle)]
-pub extern "C" fn storage_unit_channel_step(
+pub fn storage_unit_channel_step(
     settings: u32,
     storage: &mut [u8],
     keys: &mut [u8],

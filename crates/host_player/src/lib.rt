@@ -21,8 +21,7 @@ const REFUSED: u32 = 4;
 // requests and records so far, and what the call has read of the piece and written to the output, eight bytes each; zeros at the start. `piece`
 // begins with the bytes that the call before has not read. `last`: not 0 where nothing comes behind the piece. The result: 0 more bytes are
 // needed, 1 the run is ended, 2 the output has under 64 bytes left, 3 the ordinals are used up, 4 the call is refused.
-#[unsafe(no_mangle)]
-pub extern "C" fn storage_unit_play(
+pub fn storage_unit_play(
     settings: u32,
     storage: &mut [u8],
     keys: &mut [u8],

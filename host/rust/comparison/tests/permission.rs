@@ -62,6 +62,11 @@ fn printed() -> String {
     table
 }
 
+/// A text without blanks and line ends: how many words stand in a line is the formatter's.
+fn without_layout(text: &str) -> String {
+    text.split_whitespace().collect()
+}
+
 #[test]
 fn table_in_the_source() {
     let source = include_str!("../../../../crates/storage_key/src/lib.rt");
@@ -69,7 +74,7 @@ fn table_in_the_source() {
     let (_, after) = source.split_once(begin).expect("the table");
     let (table, _) = after.split_once("\n];\n").expect("the end of the table");
     print!("{}", printed());
-    assert_eq!(format!("{table}\n"), printed());
+    assert_eq!(without_layout(table), without_layout(&printed()));
 }
 
 /// Every access key with every storage key: a fetch and a store complete where the summary

@@ -7,15 +7,13 @@ use Rattle.storage_unit.proofs.request.Goals as goal
 pub returns-then-processor_number-lt2 : goal.returns-then-processor_number-lt2
 returns-then-processor_number-lt2 c =
     let both =
-    both_of_served _ _ _ _ _ _ _ _ _ _ _ _ _ _ (omega (arith, c.if-processor_number-lt2.true)) (omega (arith, c.well_formed)) refl
-    c.serve-served.ensures
+    both_of_served _ _ _ _ _ _ _ _ _ _ _ _ _ _ (omega arith) (omega (arith, c.well_formed)) refl c.serve-served.ensures
     in
     record { condition_1 = both.0; condition_2 = both.1 }
 
 pub returns : goal.returns
 returns c =
     let both =
-    both_without_record _ _ _ _ _ _ _ _ (rw c.without_record-refused.ensures at c.answer_of.ensures)
-    (omega (arith, c.if-processor_number-lt2.false))
+    both_without_record _ _ _ _ _ _ _ _ (rw c.without_record-refused.ensures at c.answer_of.ensures) (omega arith)
     in
     record { condition_1 = both.0; condition_2 = both.1 }

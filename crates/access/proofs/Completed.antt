@@ -91,9 +91,9 @@ module _ (s : Settings) (storage keys : List ℕ) (p : Processor) (kind : Access
       fetched Fetch = refl
       fetched Store = refl
 
-  module _ (f n : ℕ) (positive : 0 < n) (one_Unit : OneUnit s address f n) where
+  module _ (f n : ℕ) (positive : 0 < n) (in_one_unit : OneUnit s address f n) where
     bytes_step : (j : ℕ) → j < n → byte_address p address f + j ≡ byte_address p address (f + j)
-    bytes_step j l = byte_step s address f j (one_Unit j l) p
+    bytes_step j l = byte_step s address f j (in_one_unit j l) p
 
     storage_on : (kind : AccessKind)
         → storage_moved kind (storage_left kind storage p address f buffer) (byte_address p address f) (buffer_left kind storage p address f buffer) f n
@@ -113,16 +113,16 @@ module _ (s : Settings) (storage keys : List ℕ) (p : Processor) (kind : Access
     unfolding keys_recorded
     keys_on =
         marked_on (λ u. recorded kind (get_or keys u 0)) (λ i. unit_of s (byte_address p address i)) keys f n positive
-        (λ j l. unit_same s address f j (one_Unit j l) p)
+        (λ j l. unit_same s address f j (in_one_unit j l) p)
 
     -- the span from byte f on, completed after the first f bytes
     pub after_span : {here : Span} {xs ks ys storage' keys' buffer' : List ℕ} → here ≡ span_at s keys p address f → After f xs ks ys
         → SpanCompleted kind here f n xs ks ys storage' keys' buffer' → After (f + n) storage' keys' buffer'
-    after_span spanned so_far (storage_moved_lem, buffer_Moved, key_recorded_lem) =
+    after_span spanned so_far (storage_moved_lem, buffer_moved_lem, key_recorded_lem) =
         record {
           storage_left_lem = storage_moved_lem ∙ rw (spanned, so_far.storage_left_lem, so_far.buffer_left_lem) (storage_on kind);
           keys_left_lem = key_recorded_lem ∙ rw (spanned, so_far.keys_left_lem) keys_on;
-          buffer_left_lem = buffer_Moved ∙ rw (spanned, so_far.storage_left_lem, so_far.buffer_left_lem) (buffer_on kind);
+          buffer_left_lem = buffer_moved_lem ∙ rw (spanned, so_far.storage_left_lem, so_far.buffer_left_lem) (buffer_on kind);
         }
 
 module _ (s : Settings) (storage keys : List ℕ) (p : Processor) (kind : AccessKind) (address count : ℕ) (buffer : List ℕ) where
@@ -155,9 +155,9 @@ module _ (s : Settings) (storage keys : List ℕ) (p : Processor) (kind : Access
     -- a span fits, and the key of its unit is there
     pub span_fits : {here : Span} (f n : ℕ) → 0 < n → f + n ≤ count → OneUnit s address f n → here ≡ span_at s keys p address f
         → SpanFits here f n (length storage) (length keys) (length buffer)
-    span_fits f n positive inside one_Unit spanned =
+    span_fits f n positive inside in_one_unit spanned =
         let last : f + (n - 1) < count = omega arith in
-        let same = one_Unit (n - 1) (omega arith) in
+        let same = in_one_unit (n - 1) (omega arith) in
         rw spanned (
           record {
             at_fits = omega (arith, known.byte_inside (f + (n - 1)) last, byte_step s address f (n - 1) same p);

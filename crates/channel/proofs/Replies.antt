@@ -175,7 +175,8 @@ module _ (s : Settings) (q : ChannelRequest) (from_device : List ℕ) where
 
   module _ (fetched : ℕ) (start : Channel) (storage keys room : List ℕ) (g : ChannelProgress) {more : Bool}
       (chain : Chain s q from_device fetched start (channel storage keys room g) more) (on : more ≡ true)
-      {storage' keys' room' : List ℕ} {next : ChannelProgress} (did : channel storage' keys' room' next ≡ next_ccw s q from_device (channel storage keys room g))
+      {storage' keys' room' : List ℕ} {next : ChannelProgress}
+      (did : channel storage' keys' room' next ≡ next_ccw s q from_device (channel storage keys room g))
       {more' : Bool} (more_is : more' ≡ chains_on next.standing next.state.chaining) where
     counted_on : next.standing ≡ UnderWay → (next.fetched ≡ 1 + g.fetched) × (g.fetched < q.grant)
     counted_on stands = next_fetched s q from_device storage keys room g (chain.stands on) (chain.within on) did stands

@@ -1,7 +1,7 @@
 // The short way in for fetch and store, for programs in C, Rust and other languages: the processor's own record is one number, and the access
 // is as long as the bytes that are lent for it. Nothing is asked of the caller: whatever the numbers and bytes are, the call ends with an
-// answer of the table, and one that is not completed changes nothing. That it is a crate of its own, compiled apart
-// into an object of its own, is for speed (docs/BENCHMARK.md).
+// answer of the table, and one that is not completed changes nothing. That it is a crate of its own is for speed: the static library over it,
+// `host_access_c`, is compiled apart into an object of its own (docs/BENCHMARK.md).
 #![tactic(auto)]
 
 ghost use Rattle.std.specs.Prelude.{◌/◌, ◌%◌, ◌≡◌};

@@ -1,5 +1,6 @@
 // One step of a request of the channel, for programs in C, Rust and other languages, beside `host_channel`, whose bytes of a progress it takes. The
-// two are libraries of their own so that each is compiled with its own copy of the routine for one CCW, put into it (docs/BENCHMARK.md).
+// two are crates of their own so that the static library over each is compiled with its own copy of the routine for one CCW, put into it
+// (docs/BENCHMARK.md).
 #![tactic(auto)]
 
 ghost use Rattle.std.specs.Prelude.{◌≡◌};

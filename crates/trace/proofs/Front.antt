@@ -24,7 +24,8 @@ use Rattle.trace.proofs.Bodies.{kind_1, kind_2, kind_3, kind_4, kind_255}
 use Rattle.trace.proofs.Bodies.{other_kind, other_fetch, other_store, other_key, other_prefix, long_remark, no_key_case, no_prefix_case}
 use Rattle.trace.specs.declared.Read.{Read}
 use Rattle.trace.specs.declared.Read.TheVariants.{Request as ARequest, Remark, Bad, End}
-use Rattle.trace.specs.Trace.{request_in, fetch_in, store_in, one_of, key_requests, key_in, prefix_requests, prefix_in, remark_in, kind_read, record_read, read_of}
+use Rattle.trace.specs.Trace.{request_in, fetch_in, store_in, one_of, key_requests, key_in, prefix_requests, prefix_in, remark_in}
+use Rattle.trace.specs.Trace.{kind_read, record_read, read_of}
 use Rattle.trace.specs.Written.{request_size}
 
 -- the stated length is 2 to 512, and all that it counts is there

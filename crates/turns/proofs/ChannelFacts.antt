@@ -70,7 +70,8 @@ named_once P s n j u end none now =
 module _ (storage : List ℕ) (h : length storage ≡ 65536) (holds : ccw_at storage 8192 ≡ reading) where
   -- the channel's list comes to its end at its first turn
   read_ends : (c : ℕ) → at_end (work_then settings (memory storage) (between (read_one c ∷ []) [])) ≡ true
-  unfolding channel_step next_ccw before_fetching first_refusal range_forbidden any_below permitted obeyed operation_of before_transfer with_ccw_fetched carried_out
+  unfolding channel_step next_ccw before_fetching first_refusal range_forbidden any_below permitted obeyed operation_of before_transfer
+      with_ccw_fetched carried_out
   read_ends c = rw (h, holds)
 
   -- Processor 0 stores at real 0 and names unit 0 only, processor 1 stores at real 0 and names unit 2 only, and the channel names units 4 and 6
@@ -137,7 +138,8 @@ module _ (storage : List ℕ) (h : length storage ≡ 65536) (holds : ccw_at sto
         × (get_or (run (parties settings) shared_start channel_first).shared.storage 12288 0 ≡ a)
     unfolding written after_store line first_of first_byte first_line prefixed permitted low_protected addressing protection
         before_protection verdict storage_left buffer_left keys_recorded completed performed step served pair_step any_below
-        channel_step next_ccw before_fetching first_refusal range_forbidden obeyed operation_of before_transfer with_ccw_fetched carried_out range_recorded bytes_moved
+        channel_step next_ccw before_fetching first_refusal range_forbidden obeyed operation_of before_transfer with_ccw_fetched carried_out
+        range_recorded bytes_moved
     bytes_left = (
       rw (h, length-set storage 12288 a, h, still_holds, set-set storage 12288 a c) (get_or-set_same storage 12288 c 0 (omega arith)),
       rw (h, holds, length-set storage 12288 c, h, set-set storage 12288 c a) (get_or-set_same storage 12288 a 0 (omega arith)),
@@ -156,7 +158,8 @@ module _ (storage : List ℕ) (h : length storage ≡ 65536) (holds : ccw_at sto
     last_whole channel = rw (h, length-set storage 12288 a, h, still_holds)
 
     first_whole : Whole settings shared_start channel_first
-    unfolding channel_step next_ccw before_fetching first_refusal range_forbidden any_below permitted obeyed operation_of before_transfer with_ccw_fetched carried_out
+    unfolding channel_step next_ccw before_fetching first_refusal range_forbidden any_below permitted obeyed operation_of before_transfer
+        with_ccw_fetched carried_out
     first_whole processor0 = refl
     first_whole processor1 = refl
     first_whole channel = rw (h, holds)

@@ -212,12 +212,12 @@ module _ (s : Settings) (q : ChannelRequest) (from_device : List ℕ) (c : Chann
         (λ e f h k u. rw o)
 
     module _ (address count : ℕ) (chains : Bool) (counts : then.progress.fetched ≡ c.progress.fetched + 1)
-        (no_check : then.progress.standing ≢ Answered (Refused Program)) (not_IsShort : then.progress.standing ≢ Answered (Refused Device)) (u : ℕ) where
+        (no_check : then.progress.standing ≢ Answered (Refused Program)) (not_short : then.progress.standing ≢ Answered (Refused Device)) (u : ℕ) where
       -- data to the device: as a fetch
       pub data_to_device : operation ≡ Data Fetch address count chains
           → (in_range s address count u ≡ true → names u ≡ fetching) × (in_range s address count u ≡ false → names u ≡ ccw u)
       data_to_device o =
-          let e = data_names Fetch address count chains o counts no_check not_IsShort u in
+          let e = data_names Fetch address count chains o counts no_check not_short u in
           ((λ h. e ∙ rw h (fetched (in_range s c.progress.state.ccw 8 u))), λ h. e ∙ rw h (together_nothing (ccw u)))
         where
           fetched : (b : Bool) → together (cond b fetching unnamed) fetching ≡ fetching
@@ -228,7 +228,7 @@ module _ (s : Settings) (q : ChannelRequest) (from_device : List ℕ) (c : Chann
       pub data_from_device : operation ≡ Data Store address count chains
           → (in_range s address count u ≡ true → names u ≡ otherwise) × (in_range s address count u ≡ false → names u ≡ ccw u)
       data_from_device o =
-          let e = data_names Store address count chains o counts no_check not_IsShort u in
+          let e = data_names Store address count chains o counts no_check not_short u in
           ((λ h. e ∙ rw h (stored (in_range s c.progress.state.ccw 8 u))), λ h. e ∙ rw h (together_nothing (ccw u)))
         where
           stored : (b : Bool) → together (cond b fetching unnamed) otherwise ≡ otherwise

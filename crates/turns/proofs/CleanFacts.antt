@@ -69,7 +69,8 @@ module _ (storage : List ℕ) (h : length storage ≡ 65536) where
     pub both_leave : Left after × Left listed
     unfolding written after_fetch after_store line first_of first_byte first_line prefixed permitted low_protected addressing protection
         before_protection verdict storage_left buffer_left keys_recorded completed performed step served pair_step any_below channel_run steps
-        channel_step next_ccw before_fetching first_refusal range_forbidden obeyed operation_of before_transfer with_ccw_fetched carried_out range_recorded bytes_moved
+        channel_step next_ccw before_fetching first_refusal range_forbidden obeyed operation_of before_transfer with_ccw_fetched carried_out
+        range_recorded bytes_moved
     both_leave =
         let two = length-set storage 12288 c in
         let three = length-set (set storage 12288 c) 2048 a in (

@@ -44,9 +44,4 @@ returns-in-5 c =
     (key_case _ 5 _ refl (sym c.byte-instruction.ensures.0 ∙ c.in-5.is) c.if-body-ne10.false)
 
 pub returns-in_default : goal.returns-in_default
-returns-in_default c =
-    let other = c.in_default.in_default-own.rest in
-    no_key_case _
-    (rw (← c.byte-instruction.ensures.0)
-    (omega (arith, other.0.0.0.0.0.1, other.0.0.0.0.1, other.0.0.0.1, other.0.0.1, other.0.1, other.1)))
-    c.if-body-ne10.false
+returns-in_default c = no_key_case _ (rw (← c.byte-instruction.ensures.0) (omega arith)) c.if-body-ne10.false

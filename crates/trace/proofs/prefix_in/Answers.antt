@@ -18,6 +18,4 @@ returns-in-1 c =
     ∙ prefix_case _ 1 _ refl (sym c.byte-operation.ensures.0 ∙ c.in-1.is) c.if-body-ne6.false
 
 pub returns-in_default : goal.returns-in_default
-returns-in_default c =
-    let other = c.in_default.in_default-own.rest in
-    no_prefix_case _ (rw (← c.byte-operation.ensures.0) (omega (arith, other.0.1, other.1))) c.if-body-ne6.false
+returns-in_default c = no_prefix_case _ (rw (← c.byte-operation.ensures.0) (omega arith)) c.if-body-ne6.false

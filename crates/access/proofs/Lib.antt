@@ -2,4 +2,5 @@
 pub mod Spans
 pub mod Checks
 pub mod Completed
+pub mod Decided
 pub mod InUnits

@@ -1,18 +1,17 @@
 // The table of answers for an access. Lines 64, 65 and 66 test the request as a whole; lines 1, 2, 19 and 6 are for instructions only; lines 5
 // and 4 are tested at the first byte in each of its one or two units, line 5 at the first byte together with the lines before. Each line
-// returns early, for speed (docs/BENCHMARK.md).
+// returns early, for speed (docs/BENCHMARK.md). Kind, address, count and buffer length are parameters: a struct of them would be made once, to be
+// taken apart at once.
 ghost use Rattle.std.specs.Prelude.{◌≡◌};
-ghost use Rattle.machine.specs.Protection.{forbidden as is_forbidden};
-ghost use Rattle.machine.specs.Table.{operand_invalid};
-ghost use Rattle.storage_key.specs.Entries.{permissions};
-ghost use Rattle.access.specs.ByUnit.{byte_outside, first_lines, lines_of_one, lines_of_two};
+ghost use Rattle.machine.specs.Table.{operand_invalid, verdict};
+ghost use Rattle.access.specs.ByUnit.{byte_outside, first_lines, spans_of, passed};
 
-use crate::span::Span;
-use machine::{AccessKind, Processor, Reason, Request, Settings, Verdict};
+use crate::asking::Asking;
+use crate::span::{Spans, bytes_to_unit_end, span_at};
+use machine::{AccessKind, Processor, Reason, Refusal, Request, Settings, Verdict};
 use prefixing::add24;
-use storage_key::{low_protected, permits};
-use table::answers::{refuse, stops};
-use table::numbers::{OPERAND_LIMIT, valid};
+use table::answers::{refuse, refuse_at};
+use table::numbers::{OPERAND_LIMIT, Sizes};
 
 // Line 66.
 fn operand_invalid(kind: AccessKind, address: u32, count: usize, buffer_length: usize) -> bool
@@ -22,80 +21,71 @@ fn operand_invalid(kind: AccessKind, address: u32, count: usize, buffer_length: 
 }
 
 // Line 5 at byte i.
-pub(crate) fn outside(storage_length: usize, address: u32, i: u32) -> bool
+fn outside(storage_length: usize, address: u32, i: u32) -> bool
     ensures { result ≡ byte_outside storage_length address i }
 {
     storage_length <= add24(address, i) as usize
 }
 
 // Lines 64, 65 and 66 for a processor with the record p, and line 5 at the first byte.
-pub(crate) fn first_lines(
-    settings: Settings,
-    storage_length: usize,
-    key_length: usize,
+#[tactic(auto, unfolding(crate::specs::ByUnit::first_lines, machine::specs::Answers::first_of))]
+fn first_lines(
+    sizes: Sizes,
     p: Processor,
     kind: AccessKind,
     address: u32,
     count: usize,
     buffer_length: usize,
 ) -> Verdict
-    ensures { result ≡ first_lines settings storage_length key_length p kind address count buffer_length }
+    ensures { result ≡ first_lines sizes.settings sizes.storage sizes.keys p kind address count buffer_length }
 {
-    let machine = valid(settings, storage_length, key_length, p);
-    if stops(machine) {
-        return machine;
-    }
-    if operand_invalid(kind, address, count, buffer_length) {
-        return Verdict::Stop {
-            reason: Reason::Operand,
-            place: 0,
-        };
-    }
-    refuse(Reason::Addressing, outside(storage_length, address, 0))
-}
-
-// A byte with this real address and the key of its unit is forbidden to an access of this kind, whose access key has these permissions.
-fn forbidden(p: Processor, kind: AccessKind, allowed: u32, real: u32, key: u8) -> bool
-    requires { allowed ≡ permissions kind p.psw_key }
-    ensures { result ≡ is_forbidden kind p real key }
-{
-    low_protected(kind, p, real) | !permits(allowed, key)
-}
-
-// Line 4 of an access in one unit.
-pub(crate) fn lines_of_one(p: Processor, kind: AccessKind, allowed: u32, here: Span) -> Verdict
-    requires { allowed ≡ permissions kind p.psw_key }
-    ensures { result ≡ lines_of_one p kind here }
-{
+    sizes.lines(p)?;
     refuse(
-        Reason::Protection,
-        forbidden(p, kind, allowed, here.real, here.key),
-    )
+        Reason::Operand,
+        operand_invalid(kind, address, count, buffer_length),
+    )?;
+    refuse(Reason::Addressing, outside(sizes.storage, address, 0))
 }
 
-// Line 4 of an access in two units, byte k being the first in the second unit.
-pub(crate) fn lines_of_two(
+// The spans of an access by a processor with the record p, or the refusal of the table. Byte k is the first in the second unit; line 5 is tested
+// there before the unit's key is read. It is compiled into `fetch` and into `store`, and asks for permissions where a unit is tested and not before,
+// for speed (docs/BENCHMARK.md).
+#[inline(always)]
+pub(crate) fn spans_of(
+    settings: Settings,
+    storage_length: usize,
+    keys: &[u8],
     p: Processor,
     kind: AccessKind,
-    allowed: u32,
-    here: Span,
-    k: u32,
-    there: Span,
-) -> Verdict
-    requires { allowed ≡ permissions kind p.psw_key }
-    ensures { result ≡ lines_of_two p kind here k there }
+    address: u32,
+    count: usize,
+    buffer_length: usize,
+) -> Result<Spans, Refusal>
+    ensures { result ≡ passed (verdict settings storage_length keys.now p (Request.Access kind address count) buffer_length)
+        (spans_of settings keys.now p address count) }
 {
-    if forbidden(p, kind, allowed, here.real, here.key) {
-        return Verdict::Stop {
-            reason: Reason::Protection,
-            place: 0,
-        };
+    let sizes = Sizes {
+        settings,
+        storage: storage_length,
+        keys: keys.len(),
+    };
+    first_lines(sizes, p, kind, address, count, buffer_length)?;
+    let first = span_at(settings, keys, p, address, 0);
+    let k = bytes_to_unit_end(settings, address);
+    if count <= k as usize {
+        Asking::of(p, kind).lines_of_one(first)?;
+        return Ok(Spans {
+            first,
+            first_count: count,
+            second: None,
+        });
     }
-    if forbidden(p, kind, allowed, there.real, there.key) {
-        return Verdict::Stop {
-            reason: Reason::Protection,
-            place: k,
-        };
-    }
-    Verdict::Clear
+    refuse_at(Reason::Addressing, k, outside(storage_length, address, k))?;
+    let second = span_at(settings, keys, p, address, k);
+    Asking::of(p, kind).lines_of_two(first, k, second)?;
+    Ok(Spans {
+        first,
+        first_count: k as usize,
+        second: Some(second),
+    })
 }

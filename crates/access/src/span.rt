@@ -23,6 +23,14 @@ pub(crate) struct Span {
     pub(crate) key: u8,
 }
 
+// The spans of an access: that in its first unit, how many bytes it has, and that in its second unit, where it touches two.
+#[derive(Clone, Copy)]
+pub(crate) struct Spans {
+    pub(crate) first: Span,
+    pub(crate) first_count: usize,
+    pub(crate) second: Option<Span>,
+}
+
 // The span from byte i on, which is in storage.
 pub(crate) fn span_at(settings: Settings, keys: &[u8], p: Processor, address: u32, i: u32) -> Span
     requires { unit_of settings (byte_address p address i) < length keys.now }

@@ -1,7 +1,7 @@
 // Completing one span of an access: recording the access in the key of its unit, and moving its bytes.
 ghost use Rattle.std.specs.Prelude.{◌+◌, ◌-◌, ◌<◌, ◌≡◌, length};
 ghost use Rattle.machine.specs.Numbers.{address_space, add24 as sum24};
-ghost use Rattle.access.specs.Moving.{Fits, SpanFits, moved, key_recorded};
+ghost use Rattle.access.specs.Moving.{Fits, moved, key_recorded};
 
 use crate::span::Span;
 use machine::AccessKind;
@@ -28,56 +28,32 @@ fn offset(real: u32, j: usize) -> usize
 }
 
 // A run of n bytes whose first has the real address `real`, in either direction. They all are held in a local array before one is written, so
-// that the compiler makes one memmove of the two loops.
-fn move_run(target: &mut [u8], at: usize, source: &[u8], from: usize, real: u32, n: usize)
+// that the compiler makes one memmove of the two loops. The loops go by the index j, since each byte's real address is made by the addition; and
+// the parts of the two lists are named by their first index, since slices are no plainer: a call would owe the range of each, and join three.
+pub(crate) fn move_run(
+    target: &mut [u8],
+    at: usize,
+    source: &[u8],
+    from: usize,
+    real: u32,
+    n: usize,
+)
     requires { Fits (length target.old) at (length source.now) from real n }
     ensures { target.new ≡ moved target.old at source.now from n }
 {
     let mut held = [0u8; RUN_MAXIMUM];
-    let mut i = 0;
-    while i < n {
+    for i in 0..n {
         held[i] = source[from + offset(real, i)];
-        i += 1;
     }
-    let mut j = 0;
-    while j < n {
+    for j in 0..n {
         target[at + offset(real, j)] = held[j];
-        j += 1;
     }
 }
 
-// A fetch records the access in the key of a span's unit, and moves the first n bytes of the span into the buffer, from `from` on.
-pub(crate) fn fetch_span(
-    storage: &[u8],
-    keys: &mut [u8],
-    here: Span,
-    buffer: &mut [u8],
-    from: usize,
-    n: usize,
-)
-    requires { SpanFits here from n (length storage.now) (length keys.old) (length buffer.old) }
-    ensures { (keys.new ≡ key_recorded AccessKind.Fetch keys.old here)
-        × (buffer.new ≡ moved buffer.old from storage.now here.absolute n) }
+// Records an access in the key of a span's unit.
+pub(crate) fn record_access(keys: &mut [u8], kind: AccessKind, here: Span)
+    requires { here.unit < length keys.old }
+    ensures { keys.new ≡ key_recorded kind keys.old here }
 {
-    let unit = here.unit;
-    keys[unit] = recorded(AccessKind::Fetch, here.key);
-    move_run(buffer, from, storage, here.absolute as usize, here.real, n);
-}
-
-// A store records the access in the key of a span's unit, and moves n bytes of the buffer, from `from` on, into the first of the span.
-pub(crate) fn store_span(
-    storage: &mut [u8],
-    keys: &mut [u8],
-    here: Span,
-    buffer: &[u8],
-    from: usize,
-    n: usize,
-)
-    requires { SpanFits here from n (length storage.old) (length keys.old) (length buffer.now) }
-    ensures { (keys.new ≡ key_recorded AccessKind.Store keys.old here)
-        × (storage.new ≡ moved storage.old here.absolute buffer.now from n) }
-{
-    let unit = here.unit;
-    keys[unit] = recorded(AccessKind::Store, here.key);
-    move_run(storage, here.absolute as usize, buffer, from, here.real, n);
+    keys[here.unit] = recorded(kind, here.key);
 }

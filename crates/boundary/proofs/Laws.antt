@@ -11,8 +11,7 @@ use Rattle.machine.specs.declared.AccessKind.TheVariants.{Fetch}
 use Rattle.machine.specs.declared.Request.{Request}
 use Rattle.machine.specs.declared.Request.TheVariants.{Access}
 use Rattle.machine.specs.declared.Reason.TheVariants.{Operand}
-use Rattle.machine.specs.declared.Verdict.TheVariants.{Stop}
-use Rattle.machine.specs.Answers.{Values, line, first_of, first_line}
+use Rattle.machine.specs.Answers.{Stop, Values, line, first_of, first_line}
 use Rattle.machine.specs.Table.{configuration, own_record, before_protection, verdict}
 use Rattle.machine.specs.Step.{step}
 use Rattle.machine.proofs.Verdicts.{first_assoc}

@@ -7,12 +7,9 @@ use Rattle.machine.specs.declared.Request.TheVariants.{Access, Key, Prefix}
 use Rattle.machine.specs.declared.AccessKind.TheVariants.{Fetch, Store}
 use Rattle.machine.specs.declared.KeyInstruction.TheVariants.{Isk, Ssk, Rrb, Iske, Sske, Rrbe}
 use Rattle.machine.specs.declared.PrefixInstruction.TheVariants.{SetPrefix, StorePrefix}
-use Rattle.machine.specs.declared.Answer.{Answer}
+use Rattle.machine.specs.Answers.{Answer, Verdict, Stop, number_of, Values, values, answer_of}
 use Rattle.machine.specs.declared.Reason.TheVariants.{Configuration}
-use Rattle.machine.specs.declared.Verdict.{Verdict}
-use Rattle.machine.specs.declared.Verdict.TheVariants.{Stop}
 use Rattle.machine.specs.Lists.{written}
-use Rattle.machine.specs.Answers.{number_of, Values, values, answer_of}
 use Rattle.machine.specs.Step.{Outcome, step}
 use Rattle.machine.specs.Pair.{without_record}
 use Rattle.machine.specs.Conditions.{numbers, is_in}

@@ -1,8 +1,15 @@
--- A processor's record as two numbers of four bytes, the least first: its state, in which stand the PSW key, the controls, the condition code and
--- a zero, and its prefix. proofs/Words says what record these are.
-use Rattle.std.specs.Prelude.{ℕ, ◌+◌, ◌*◌, ◌/◌, ◌%◌, Bool, ◌&&◌, List, get_or, leb}
+-- Settings in a number, and a processor's record as two numbers of four bytes, the least first: its state, in which stand the PSW key, the
+-- controls, the condition code and a zero, and its prefix. proofs/Words says what record these are.
+use Rattle.std.specs.Prelude.{ℕ, ◌+◌, ◌*◌, ◌/◌, ◌%◌, Bool, cond, ◌&&◌, List, get_or, leb, ltb, Result, Ok, Err}
 use Rattle.machine.specs.declared.Processor.{Processor}
-use Rattle.boundary.specs.Boundary.{bit, reserved_zero}
+use Rattle.machine.specs.declared.Settings.{Settings}
+use Rattle.machine.specs.declared.Refusal.{Refusal}
+use Rattle.machine.specs.declared.Reason.TheVariants.{Configuration}
+use Rattle.boundary.specs.Boundary.{bit, settings_of, reserved_zero}
+
+-- the settings in a number; with another bit on, what line 64 says
+abbrev pub settings_in : ℕ → Result Settings Refusal
+settings_in w = cond (ltb w 4) (Ok (settings_of w)) (Err (record { reason = Configuration; place = 0 }))
 
 -- the number in the four bytes from `at` on
 abbrev pub word_at : List ℕ → ℕ → ℕ

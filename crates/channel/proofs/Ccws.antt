@@ -17,16 +17,14 @@ use Rattle.machine.specs.declared.channel.Ccw.{Ccw}
 use Rattle.machine.specs.declared.channel.ChannelRequest.{ChannelRequest}
 use Rattle.machine.specs.declared.channel.ChannelReason.{ChannelReason}
 use Rattle.machine.specs.declared.channel.ChannelReason.TheVariants.{GrantUsed, Program, Protection, Device}
-use Rattle.machine.specs.declared.channel.ChannelAnswer.TheVariants.{Refused}
+use Rattle.machine.specs.Channel.{Refused, Answered, ccw_at, operation_of, outside, range_forbidden, range_recorded, bytes_moved, Channel, channel}
+use Rattle.machine.specs.Channel.{standing_as, first_refusal, address_lines, before_fetching, device_short, transfer_allowed, before_transfer}
+use Rattle.machine.specs.Channel.{with_ccw_fetched, after_data, carried_out, obeyed, next_ccw}
 use Rattle.machine.specs.declared.channel.ChannelOperation.{ChannelOperation}
 use Rattle.machine.specs.declared.channel.ChannelOperation.TheVariants.{TransferInChannel, Data, Invalid}
-use Rattle.machine.specs.declared.channel.Standing.TheVariants.{Answered}
 use Rattle.machine.specs.declared.channel.ChannelProgress.{ChannelProgress}
 use Rattle.machine.specs.Numbers.{unit_of}
 use Rattle.machine.specs.Protection.{permitted, recorded}
-use Rattle.machine.specs.Channel.{ccw_at, operation_of, outside, range_forbidden, range_recorded, bytes_moved, Channel, channel, standing_as}
-use Rattle.machine.specs.Channel.{first_refusal, address_lines, before_fetching, device_short, transfer_allowed, before_transfer, with_ccw_fetched}
-use Rattle.machine.specs.Channel.{after_data, carried_out, obeyed, next_ccw}
 use Rattle.machine.proofs.Verdicts.{neither}
 use Rattle.channel.specs.Requests.{Passed, counted, device_left, after_transfer}
 use Rattle.channel.proofs.Ranges.{ccw_forbidden, ccw_recorded}

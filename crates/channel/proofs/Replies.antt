@@ -11,34 +11,43 @@ use native.Mathlib.Omega.{arith}
 use native.Mathlib.Nat.{sub-zero}
 use native.Mathlib.Numerals.{add-one}
 use lib.ListN.{length}
+use Rattle.std.proofs.Common.{Ok, rules}
+use Rattle.std.specs.Bool.{⊤}
+use Rattle.std.specs.Option.{is_some}
 use borrow.Author.Tests.{ltb-false, eqb-false, not-false}
 use Rattle.machine.specs.declared.Settings.{Settings}
 use Rattle.machine.specs.declared.channel.ChannelRequest.{ChannelRequest}
 use Rattle.machine.specs.declared.channel.ChannelReason.{ChannelReason}
-use Rattle.machine.specs.declared.channel.ChannelAnswer.{ChannelAnswer}
-use Rattle.machine.specs.declared.channel.ChannelAnswer.TheVariants.{Refused}
+use Rattle.machine.specs.Channel.{ChannelAnswer, Refused, Standing, UnderWay, Answered, Channel, channel, standing_as, transfer_allowed}
+use Rattle.machine.specs.Channel.{first_refusal, request_lines, before_fetching, next_ccw, channel_step, begun, steps, ChannelOutcome, outcome_in}
+use Rattle.machine.specs.Channel.{channel_outcome, channel_run, steps_that_fetch}
 use Rattle.machine.specs.declared.channel.ChannelReply.{ChannelReply}
-use Rattle.machine.specs.declared.channel.Standing.{Standing}
-use Rattle.machine.specs.declared.channel.Standing.TheVariants.{UnderWay, Answered}
 use Rattle.machine.specs.declared.channel.Chaining.{Chaining}
 use Rattle.machine.specs.declared.channel.Chaining.TheVariants.{First, Command, Transfer, Ended}
 use Rattle.machine.specs.declared.channel.ChannelProgress.{ChannelProgress}
-use Rattle.machine.specs.Channel.{Channel, channel, standing_as, transfer_allowed, first_refusal, request_lines, before_fetching, next_ccw, channel_step}
-use Rattle.machine.specs.Channel.{begun, steps, ChannelOutcome, outcome_in, channel_outcome, channel_run, steps_that_fetch}
 use Rattle.machine.specs.Conditions.{ChannelCondition1}
 use Rattle.machine.proofs.Verdicts.{neither, not_both}
 use Rattle.machine.proofs.ChannelSteps.{channel_condition_1}
-use Rattle.channel.specs.Requests.{Passed, Entered, Later, chains_on, under_way, standing_by, reply_of, run_from}
+use Rattle.channel.specs.Requests.{Passed, Entered, Later, chains_on, under_way, answer_by, reply_of, run_from}
 use Rattle.machine.proofs.ChannelSteps.{no_line, step_under_way, step_answered}
 use Rattle.machine.proofs.ChannelRuns.{not_under_way, refused_before, refused_unfetched, still_under_way, transfer_placed}
 use Rattle.machine.proofs.ChannelRuns.{first_of_steps, answered_stays, steps_count, steps_within}
 
--- The lines of a request, by the standing that they give it.
-module _ (s : Settings) (storage_length key_length : ℕ) (q : ChannelRequest) {standing : Standing}
-    (lines : standing ≡ standing_by (first_refusal (request_lines s storage_length key_length q))) where
-  pub lines_pass : standing ≡ UnderWay → Passed s storage_length key_length q
-  unfolding standing_by
-  lines_pass stands = go (first_refusal (request_lines s storage_length key_length q)) refl (sym lines ∙ stands)
+-- A request has answered, or is under way.
+pub answered_by : (standing : Standing) → is_some standing ≡ true → (answer : ChannelAnswer) × (standing ≡ Answered answer)
+answered_by (Answered answer) e = (answer, refl)
+answered_by UnderWay e = absurd (not_both e refl)
+
+pub under_way_by : (standing : Standing) → is_some standing ≡ false → standing ≡ UnderWay
+under_way_by (Answered answer) e = absurd (not_both refl e)
+under_way_by UnderWay e = refl
+
+-- The lines of a request, by what they answer.
+module _ (s : Settings) (storage_length key_length : ℕ) (q : ChannelRequest) {answer : ChannelAnswer}
+    (lines : answer ≡ answer_by (first_refusal (request_lines s storage_length key_length q))) where
+  pub lines_pass : {t : ⊤} → answer ≡ Ok t → Passed s storage_length key_length q
+  unfolding answer_by
+  lines_pass {t} passes = go (first_refusal (request_lines s storage_length key_length q)) refl (sym lines ∙ passes)
     where
       passed : first_refusal (request_lines s storage_length key_length q) ≡ none → Passed s storage_length key_length q
       passed e =
@@ -53,20 +62,19 @@ module _ (s : Settings) (storage_length key_length : ℕ) (q : ChannelRequest) {
             limited = ltb-false _ _ line_66.1;
           }
 
-      go : (found : Option ChannelReason) → first_refusal (request_lines s storage_length key_length q) ≡ found → standing_by found ≡ UnderWay
+      go : (found : Option ChannelReason) → first_refusal (request_lines s storage_length key_length q) ≡ found → answer_by found ≡ Ok t
           → Passed s storage_length key_length q
       go none e f = passed e
-      go (some r) e f = absurd (not_under_way refl f)
+      go (some r) e f = search rules
 
-  pub lines_refuse : {answer : ChannelAnswer} → standing ≡ Answered answer
-      → (r : ChannelReason) × (first_refusal (request_lines s storage_length key_length q) ≡ some r) × (answer ≡ Refused r)
-  unfolding standing_by
-  lines_refuse {answer} stands = go (first_refusal (request_lines s storage_length key_length q)) refl (sym lines ∙ stands)
+  pub lines_refuse : {r : ChannelReason} → answer ≡ Refused r → first_refusal (request_lines s storage_length key_length q) ≡ some r
+  unfolding answer_by
+  lines_refuse {r} refuses = go (first_refusal (request_lines s storage_length key_length q)) refl (sym lines ∙ refuses)
     where
-      go : (found : Option ChannelReason) → first_refusal (request_lines s storage_length key_length q) ≡ found → standing_by found ≡ Answered answer
-          → (r : ChannelReason) × (first_refusal (request_lines s storage_length key_length q) ≡ some r) × (answer ≡ Refused r)
-      go none e f = absurd (not_under_way f refl)
-      go (some r) e f = (r, e, cc)
+      go : (found : Option ChannelReason) → first_refusal (request_lines s storage_length key_length q) ≡ found → answer_by found ≡ Refused r
+          → first_refusal (request_lines s storage_length key_length q) ≡ some r
+      go none e f = search rules
+      go (some r') e f = search rules
 
 module _ (s : Settings) (q : ChannelRequest) (from_device storage keys room : List ℕ) (g : ChannelProgress) where
   abbrev found : Channel
@@ -77,19 +85,19 @@ module _ (s : Settings) (q : ChannelRequest) (from_device storage keys room : Li
   step_stays stands = sym (step_answered s q from_device found _ stands)
 
   module _ (stands : g.standing ≡ UnderWay) where
-    refused_by_lines : {line : Standing} {answer : ChannelAnswer}
-        → line ≡ standing_by (first_refusal (request_lines s (length storage) (length keys) q)) → line ≡ Answered answer
-        → channel storage keys room (standing_as g (Answered answer)) ≡ channel_step s q from_device found
+    refused_by_lines : {line : ChannelAnswer} {r : ChannelReason}
+        → line ≡ answer_by (first_refusal (request_lines s (length storage) (length keys) q)) → line ≡ Refused r
+        → channel storage keys room (standing_as g (Answered (Refused r))) ≡ channel_step s q from_device found
     unfolding before_fetching
-    refused_by_lines {line} {answer} lines answered =
-        let (r, e, is) = lines_refuse s (length storage) (length keys) q lines answered in
+    refused_by_lines {line} {r} lines refuses =
+        let e = lines_refuse s (length storage) (length keys) q lines refuses in
         let first : before_fetching s q found ≡ some r = refused_before (request_lines s (length storage) (length keys) q) _ r e in
-        rw is (sym (refused_unfetched s q from_device found r first)) ∙ sym (step_under_way s q from_device found stands)
+        sym (refused_unfetched s q from_device found r first) ∙ sym (step_under_way s q from_device found stands)
 
-    pub step_refused : {line : Standing} {answer : ChannelAnswer} {r : ChannelProgress}
-        → line ≡ standing_by (first_refusal (request_lines s (length storage) (length keys) q)) → line ≡ Answered answer
-        → r ≡ standing_as g (Answered answer) → channel storage keys room r ≡ channel_step s q from_device found
-    step_refused lines answered after = rw after (refused_by_lines lines answered)
+    pub step_refused : {line : ChannelAnswer} {r : ChannelReason} {after : ChannelProgress}
+        → line ≡ answer_by (first_refusal (request_lines s (length storage) (length keys) q)) → line ≡ Refused r
+        → after ≡ standing_as g (Answered (Refused r)) → channel storage keys room after ≡ channel_step s q from_device found
+    step_refused lines refuses is = rw is (refused_by_lines lines refuses)
 
     pub step_on : {storage' keys' room' : List ℕ} {r : ChannelProgress} → channel storage' keys' room' r ≡ next_ccw s q from_device found
         → channel storage' keys' room' r ≡ channel_step s q from_device found
@@ -262,14 +270,14 @@ module _ (s : Settings) (q : ChannelRequest) (from_device storage keys room : Li
       let counted = steps_count s q from_device (q.grant + 1) start in
       (outcome, (omega arith, omega arith))
 
-  pub request_refused : {line : Standing} {answer : ChannelAnswer} {g : ChannelProgress} {reply : ChannelReply}
-      → line ≡ standing_by (first_refusal (request_lines s (length storage) (length keys) q)) → line ≡ Answered answer → g ≡ begun q
-      → reply ≡ reply_of g answer → Promised reply storage keys room
+  pub request_refused : {line : ChannelAnswer} {r : ChannelReason} {g : ChannelProgress} {reply : ChannelReply}
+      → line ≡ answer_by (first_refusal (request_lines s (length storage) (length keys) q)) → line ≡ Refused r → g ≡ begun q
+      → reply ≡ reply_of g (Refused r) → Promised reply storage keys room
   unfolding channel_run
-  request_refused {answer = answer} {reply = reply} lines answered begins replied =
-      let after = channel storage keys room (standing_as (begun q) (Answered answer)) in
+  request_refused {r = r} {reply = reply} lines refuses begins replied =
+      let after = channel storage keys room (standing_as (begun q) (Answered (Refused r))) in
       let first : after ≡ channel_step s q from_device start =
-      refused_by_lines s q from_device storage keys room (begun q) refl lines answered in
+      refused_by_lines s q from_device storage keys room (begun q) refl lines refuses in
       let stays = answered_stays s q from_device q.grant after refl in
       let run : steps (q.grant + 1) s q from_device start ≡ after =
       ap (λ n. steps n s q from_device start) (add-one q.grant) ∙ first_of_steps s q from_device q.grant start

@@ -1,6 +1,6 @@
 -- The CCW: its numbers of two words, and what is known of the operation it asks for. By arithmetic on digits, and by the cases
 -- of the command. Assumes nothing.
-use Prim.Native.Nat.{ℕ, ◌+◌, ◌*◌, ◌/◌, ◌%◌, ◌<◌}
+use Prim.Native.Nat.{ℕ, ◌+◌, ◌/◌, ◌%◌, ◌<◌}
 use mathlib.Core.Path.{◌≡◌, refl}
 use mathlib.Core.Bool.{Bool, true, false, cond, not, ◌||◌}
 use mathlib.Core.List.{List}
@@ -16,15 +16,6 @@ use Rattle.machine.specs.declared.channel.ChannelOperation.TheVariants.{Transfer
 use Rattle.machine.specs.Bits.{field}
 use Rattle.channel.specs.Requests.{Counted}
 use Rattle.machine.specs.Channel.{big_endian, ccw_at, data_operation, operation_of}
-
--- four bytes, of two and two
-pub word_read : (bytes : List ℕ) (a : ℕ) {high low : ℕ} → high ≡ get_or bytes a 0 * 256 + get_or bytes (a + 1) 0
-    → low ≡ get_or bytes (a + 2) 0 * 256 + get_or bytes (a + 3) 0 → high * 65536 + low ≡ big_endian 4 bytes a
-unfolding big_endian
-word_read bytes a high_is low_is =
-    let second : a + 1 + 1 ≡ a + 2 = omega arith in
-    let third : a + 2 + 1 ≡ a + 3 = omega arith in
-    rw (second, third) (omega (arith, high_is, low_is))
 
 -- the parts of a word: its first byte and the three behind it, and the last two
 module _ (bytes : List ℕ) (small : (i : ℕ) → get_or bytes i 0 < 256) (a : ℕ) where

@@ -12,14 +12,11 @@ use Rattle.machine.specs.declared.channel.Chaining.TheVariants.{First, Command, 
 use Rattle.machine.specs.declared.channel.ChannelRecord.{ChannelRecord}
 use Rattle.machine.specs.declared.channel.ChannelReason.TheVariants.{Program}
 use Rattle.machine.specs.declared.channel.ChannelReason.{ChannelReason}
-use Rattle.machine.specs.declared.channel.ChannelAnswer.{ChannelAnswer}
-use Rattle.machine.specs.declared.channel.ChannelAnswer.TheVariants.{Refused}
+use Rattle.machine.specs.Channel.{ChannelAnswer, Completed, Refused, Standing, UnderWay, Answered, Channel, standing_as, transfer_allowed, transferred, steps}
+use Rattle.machine.specs.Channel.{ChannelOutcome, outcome_in}
 use Rattle.machine.specs.declared.channel.ChannelReply.{ChannelReply}
-use Rattle.machine.specs.declared.channel.Standing.{Standing}
-use Rattle.machine.specs.declared.channel.Standing.TheVariants.{UnderWay, Answered}
 use Rattle.machine.specs.declared.channel.ChannelProgress.{ChannelProgress}
 use Rattle.machine.specs.Numbers.{storage_maximum, lengths_valid}
-use Rattle.machine.specs.Channel.{Channel, standing_as, transfer_allowed, transferred, steps, ChannelOutcome, outcome_in}
 use Rattle.channel.specs.Ranges.{Keyed}
 
 -- the lines that are tested before the first CCW pass
@@ -83,10 +80,10 @@ pub record Later (q : ChannelRequest) (fetched : ℕ) (g : ChannelProgress) : Ty
   pub more : g.standing ≡ UnderWay → fetched + 1 < g.fetched
   pub entered : g.standing ≡ UnderWay → Entered q g
 
--- the standing that the first refusal gives, if there is one
-unfoldable pub standing_by : Option ChannelReason → Standing
-standing_by none = UnderWay
-standing_by (some r) = Answered (Refused r)
+-- the first refusal, if there is one, as an answer
+unfoldable pub answer_by : Option ChannelReason → ChannelAnswer
+answer_by none = Completed
+answer_by (some r) = Refused r
 
 -- the reply of a request that has an answer
 abbrev pub reply_of : ChannelProgress → ChannelAnswer → ChannelReply

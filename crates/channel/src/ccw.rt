@@ -5,21 +5,18 @@ ghost use Rattle.machine.specs.Channel.{big_endian, ccw_at, data_operation, oper
 use machine::AccessKind;
 use machine::channel::{Ccw, ChannelOperation};
 
-// Two bytes as a number, big-endian.
-fn of_two(high: u8, low: u8) -> u32
-    ensures { (result ≡ high * 256 + low) × (result < 65536) }
-{
-    high as u32 * 256 + low as u32
-}
-
 // The four bytes at an address as a number, big-endian.
+#[tactic(auto, unfolding(machine::specs::Channel::big_endian))]
 fn word_at(storage: &[u8], at: usize) -> u32
     requires { at + 4 ≤ length storage.now }
     ensures { result ≡ big_endian 4 storage.now at }
 {
-    let high = of_two(storage[at], storage[at + 1]);
-    let low = of_two(storage[at + 2], storage[at + 3]);
-    high * 65536 + low
+    u32::from_be_bytes([
+        storage[at],
+        storage[at + 1],
+        storage[at + 2],
+        storage[at + 3],
+    ])
 }
 
 // The CCW at an address, of its two words. The byte behind the flags is ignored.
@@ -54,6 +51,7 @@ fn data_operation(kind: AccessKind, ccw: Ccw) -> ChannelOperation
 }
 
 // What a CCW asks for, by its command: low bits 01 and 10 move data, 1000 is a transfer in channel, others are bad.
+#[tactic(auto, using(crate::proofs::Words::operation_tests), unfolding(machine::specs::Channel::operation_of))]
 pub(crate) fn operation_of(ccw: Ccw) -> ChannelOperation
     ensures { result ≡ operation_of ccw }
 {

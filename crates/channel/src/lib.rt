@@ -13,45 +13,30 @@ mod transfer;
 ghost use Rattle.std.specs.Prelude.{◌+◌, ◌≤◌, ◌≡◌};
 ghost use Rattle.machine.specs.Conditions.{ChannelCondition1};
 ghost use Rattle.machine.specs.Channel.{first_refusal, request_lines, channel, channel_step, channel_outcome, channel_run, steps_that_fetch, begun};
-ghost use Rattle.channel.specs.Requests.{standing_by};
+ghost use Rattle.channel.specs.Requests.{answer_by};
 
 use crate::program::next_ccw;
 use crate::progress::{answered, begin};
 use crate::run::{execute, reply};
 use machine::Settings;
-use machine::channel::{
-    ChannelAnswer, ChannelProgress, ChannelReason, ChannelReply, ChannelRequest, Standing,
-};
-use table::numbers::lengths_valid;
+use machine::channel::{ChannelProgress, ChannelReason, ChannelReply, ChannelRequest};
+use table::numbers::Sizes;
 
-// The standing of a request that is refused.
-fn refusal(reason: ChannelReason) -> Standing
-    ensures { result ≡ Standing.Answered (ChannelAnswer.Refused reason) }
+// The lines of a request, 64, 65 and 66.
+#[tactic(auto, unfolding(crate::specs::Requests::answer_by, machine::specs::Channel::first_refusal))]
+fn request_lines(sizes: Sizes, request: ChannelRequest) -> Result<(), ChannelReason>
+    ensures { result ≡ answer_by (first_refusal (request_lines sizes.settings sizes.storage sizes.keys request)) }
 {
-    Standing::Answered {
-        answer: ChannelAnswer::Refused { reason },
-    }
-}
-
-// The lines of a request, 64, 65 and 66: one that passes them is under way.
-fn request_lines(
-    settings: Settings,
-    storage_length: usize,
-    key_length: usize,
-    request: ChannelRequest,
-) -> Standing
-    ensures { result ≡ standing_by (first_refusal (request_lines settings storage_length key_length request)) }
-{
-    if !lengths_valid(settings, storage_length, key_length) {
-        return refusal(ChannelReason::Configuration);
+    if !sizes.valid() {
+        return Err(ChannelReason::Configuration);
     }
     if 15 < request.key {
-        return refusal(ChannelReason::ChannelKey);
+        return Err(ChannelReason::ChannelKey);
     }
     if (request.grant == 0) | (256 < request.grant) {
-        return refusal(ChannelReason::Grant);
+        return Err(ChannelReason::Grant);
     }
-    Standing::UnderWay
+    Ok(())
 }
 
 // A step of a request: its next CCW; where it has answered, nothing. A CCW that is refused changes nothing but the key of the unit from which
@@ -71,24 +56,20 @@ pub fn channel_step(
         ≡ channel_step settings request from_device.now
         (channel storage.old keys.old room.old progress) }
 {
-    let standing = progress.standing;
-    match standing {
-        Standing::Answered { answer: _ } => progress,
-        Standing::UnderWay => {
-            let lines = request_lines(settings, storage.len(), keys.len(), request);
-            match lines {
-                Standing::Answered { answer } => answered(progress, answer),
-                Standing::UnderWay => next_ccw(
-                    settings,
-                    storage,
-                    keys,
-                    request,
-                    progress,
-                    from_device,
-                    room,
-                ),
-            }
-        }
+    if progress.standing.is_some() {
+        return progress;
+    }
+    match request_lines(Sizes::of(settings, storage, keys), request) {
+        Err(reason) => answered(progress, Err(reason)),
+        Ok(()) => next_ccw(
+            settings,
+            storage,
+            keys,
+            request,
+            progress,
+            from_device,
+            room,
+        ),
     }
 }
 
@@ -108,9 +89,8 @@ pub fn channel_request(
         (channel storage.old keys.old room.old (begun request)) }
 {
     let start = begin(request);
-    let lines = request_lines(settings, storage.len(), keys.len(), request);
-    match lines {
-        Standing::Answered { answer } => reply(start, answer),
-        Standing::UnderWay => execute(settings, storage, keys, request, from_device, room, start),
+    match request_lines(Sizes::of(settings, storage, keys), request) {
+        Err(reason) => reply(start, Err(reason)),
+        Ok(()) => execute(settings, storage, keys, request, from_device, room, start),
     }
 }

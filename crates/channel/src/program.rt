@@ -1,10 +1,12 @@
-// One CCW of a channel program: the lines above its fetching, the fetching, and what it asks for.
+// One CCW of a channel program: the lines above its fetching, the fetching, and what it asks for. What is lent is passed one by one here and in
+// `run` and `transfer`: each function that takes a struct of the references would also have to promise that it holds the same ones as before. So the
+// facts `Passed` and `Entered`, which relate them, are clauses and no invariant.
 ghost use Rattle.std.specs.Prelude.{◌+◌, ◌≤◌, ◌≡◌, length};
 ghost use Rattle.machine.specs.Channel.{channel, obeyed, next_ccw};
 ghost use Rattle.channel.specs.Requests.{Passed, Counted};
 
 use crate::ccw::{ccw_at, operation_of};
-use crate::progress::{counted, refused, transfer_in_channel};
+use crate::progress::{answered, counted, transfer_in_channel};
 use crate::transfer::transfer_data;
 use machine::channel::{ChannelOperation, ChannelProgress, ChannelReason, ChannelRequest};
 use machine::{AccessKind, Settings};
@@ -48,7 +50,7 @@ fn obey(
             count,
             chains,
         ),
-        ChannelOperation::Invalid => refused(progress, ChannelReason::Program),
+        ChannelOperation::Invalid => answered(progress, Err(ChannelReason::Program)),
     }
 }
 
@@ -68,16 +70,16 @@ pub(crate) fn next_ccw(
         (channel storage.old keys.old room.old progress) }
 {
     if request.grant <= progress.fetched {
-        return refused(progress, ChannelReason::GrantUsed);
+        return answered(progress, Err(ChannelReason::GrantUsed));
     }
     let at = progress.state.ccw as usize;
     if (at % 8 != 0) | (storage.len() < at + 8) {
-        return refused(progress, ChannelReason::Program);
+        return answered(progress, Err(ChannelReason::Program));
     }
     let unit = unit_of(settings, at);
     let key = keys[unit];
     if !permitted(AccessKind::Fetch, request.key as u8, key) {
-        return refused(progress, ChannelReason::Protection);
+        return answered(progress, Err(ChannelReason::Protection));
     }
     keys[unit] = recorded(AccessKind::Fetch, key);
     let operation = operation_of(ccw_at(&storage[..], at));

@@ -1,11 +1,10 @@
 // How far a request has come: its progress where it is refused, where a CCW was fetched, and after each operation.
 ghost use Rattle.std.specs.Prelude.{◌+◌, ◌<◌, ◌≡◌};
-ghost use Rattle.machine.specs.Channel.{begun, standing_as, transfer_allowed, after_data};
+ghost use Rattle.machine.specs.Channel.{Answered, begun, standing_as, after_data};
 ghost use Rattle.channel.specs.Requests.{counted as counted_by, under_way, after_transfer};
 
 use machine::channel::{
     Chaining, ChannelAnswer, ChannelProgress, ChannelReason, ChannelRecord, ChannelRequest,
-    Standing,
 };
 
 // The progress of a request that begins: its first CCW, and its two buffers used from their first bytes.
@@ -20,7 +19,7 @@ pub fn begin(request: ChannelRequest) -> ChannelProgress
             given: 0,
         },
         fetched: 0,
-        standing: Standing::UnderWay,
+        standing: None,
     }
 }
 
@@ -42,27 +41,18 @@ pub(crate) fn under_way(
             given,
         },
         fetched,
-        standing: Standing::UnderWay,
+        standing: None,
     }
 }
 
 // The progress of a request that is answered, all else being as it was.
 pub(crate) fn answered(progress: ChannelProgress, answer: ChannelAnswer) -> ChannelProgress
-    ensures { result ≡ standing_as progress (Standing.Answered answer) }
+    ensures { result ≡ standing_as progress (Answered answer) }
 {
-    let state = progress.state;
     ChannelProgress {
-        state,
-        fetched: progress.fetched,
-        standing: Standing::Answered { answer },
+        standing: Some(answer),
+        ..progress
     }
-}
-
-// The same for one that is refused.
-pub(crate) fn refused(progress: ChannelProgress, reason: ChannelReason) -> ChannelProgress
-    ensures { result ≡ standing_as progress (Standing.Answered (ChannelAnswer.Refused reason)) }
-{
-    answered(progress, ChannelAnswer::Refused { reason })
 }
 
 // The progress with one CCW more fetched.
@@ -70,46 +60,29 @@ pub(crate) fn counted(progress: ChannelProgress) -> ChannelProgress
     requires { progress.fetched < 256 }
     ensures { result ≡ counted_by progress }
 {
-    let state = progress.state;
-    let standing = progress.standing;
     ChannelProgress {
-        state,
         fetched: progress.fetched + 1,
-        standing,
+        ..progress
     }
 }
 
-// A transfer in channel is allowed after a CCW that chains.
-fn transfer_allowed(chaining: Chaining) -> bool
-    ensures { result ≡ transfer_allowed chaining }
-{
-    match chaining {
-        Chaining::First => false,
-        Chaining::Command => true,
-        Chaining::Transfer => false,
-        Chaining::Ended => false,
-    }
-}
-
-// A transfer in channel to the CCW at this address.
+// A transfer in channel to the CCW at this address: it is allowed after a CCW that chains.
+#[tactic(auto, unfolding(crate::specs::Requests::after_transfer))]
 pub(crate) fn transfer_in_channel(progress: ChannelProgress, address: u32) -> ChannelProgress
     ensures { result ≡ after_transfer address progress }
 {
-    let state = progress.state;
-    let chaining = state.chaining;
-    if !transfer_allowed(chaining) {
-        return refused(progress, ChannelReason::Program);
+    if progress.state.chaining != Chaining::Command {
+        return answered(progress, Err(ChannelReason::Program));
     }
-    let fetched = progress.fetched;
+    let state = ChannelRecord {
+        ccw: address,
+        chaining: Chaining::Transfer,
+        ..progress.state
+    };
     ChannelProgress {
-        state: ChannelRecord {
-            ccw: address,
-            chaining: Chaining::Transfer,
-            taken: state.taken,
-            given: state.given,
-        },
-        fetched,
-        standing: Standing::UnderWay,
+        state,
+        standing: None,
+        ..progress
     }
 }
 
@@ -124,17 +97,10 @@ pub(crate) fn after_data(
         × (progress.state.given + given < 18446744073709551616) }
     ensures { result ≡ after_data chains taken given progress }
 {
-    let chaining = if chains {
-        Chaining::Command
+    let (chaining, standing) = if chains {
+        (Chaining::Command, None)
     } else {
-        Chaining::Ended
-    };
-    let standing = if chains {
-        Standing::UnderWay
-    } else {
-        Standing::Answered {
-            answer: ChannelAnswer::Completed,
-        }
+        (Chaining::Ended, Some(Ok(())))
     };
     ChannelProgress {
         state: ChannelRecord {

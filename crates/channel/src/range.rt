@@ -1,5 +1,6 @@
 // A range of bytes under the channel's key, by unit: each of its units is tested, and its key written, once. A range in one unit, which most are,
-// has a way of its own: the loops cost more than they do for one key (docs/BENCHMARK.md).
+// has a way of its own: the loops cost more than they do for one key. They count by hand: as `for` over the numbers of the units, or over the part of
+// the keys, they make a CCW of 8 bytes slower by more than the 3 % that a change of form may cost, though it never reaches them (docs/BENCHMARK.md).
 ghost use Rattle.std.specs.Prelude.{◌≡◌, length};
 ghost use Rattle.machine.specs.Channel.{range_forbidden, range_recorded};
 ghost use Rattle.channel.specs.Ranges.{Keyed};

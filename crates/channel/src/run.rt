@@ -9,7 +9,7 @@ use crate::program::next_ccw;
 use crate::progress::under_way;
 use machine::Settings;
 use machine::channel::{
-    Chaining, ChannelAnswer, ChannelProgress, ChannelRecord, ChannelReply, ChannelRequest, Standing,
+    Chaining, ChannelAnswer, ChannelProgress, ChannelRecord, ChannelReply, ChannelRequest,
 };
 
 // The reply of a request that has this answer. The record is copied part by part: as a whole it is read back before its parts are in memory
@@ -32,21 +32,11 @@ pub(crate) fn reply(progress: ChannelProgress, answer: ChannelAnswer) -> Channel
 }
 
 // The next CCW follows by chain command: the request is under way, and the last CCW was no transfer in channel.
+#[tactic(auto, unfolding(crate::specs::Requests::chains_on))]
 fn chains_on(progress: ChannelProgress) -> bool
     ensures { result ≡ chains_on progress.standing progress.state.chaining }
 {
-    let standing = progress.standing;
-    let state = progress.state;
-    let chaining = state.chaining;
-    match standing {
-        Standing::Answered { answer: _ } => false,
-        Standing::UnderWay => match chaining {
-            Chaining::First => true,
-            Chaining::Command => true,
-            Chaining::Transfer => false,
-            Chaining::Ended => true,
-        },
-    }
+    progress.standing.is_none() && progress.state.chaining != Chaining::Transfer
 }
 
 // The CCWs from the one to come on that follow each other by chain command, up to an answer or to a transfer in channel. The progress is copied
@@ -102,18 +92,9 @@ pub(crate) fn execute(
         ≡ run_from settings request from_device.now (channel storage.old keys.old room.old start) }
 {
     let next = run_chain(settings, storage, keys, request, from_device, room, start);
-    let standing = next.standing;
-    match standing {
-        Standing::Answered { answer } => reply(next, answer),
-        Standing::UnderWay => follow_transfer(
-            settings,
-            storage,
-            keys,
-            request,
-            from_device,
-            room,
-            next,
-        ),
+    match next.standing {
+        Some(answer) => reply(next, answer),
+        None => follow_transfer(settings, storage, keys, request, from_device, room, next),
     }
 }
 

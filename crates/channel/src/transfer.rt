@@ -4,24 +4,15 @@ ghost use Rattle.machine.specs.Channel.{channel, after_data, range_recorded, byt
 ghost use Rattle.channel.specs.Requests.{Passed, DataFits, device_left};
 
 use crate::moving::move_bytes;
-use crate::progress::{after_data, refused};
+use crate::progress::{after_data, answered};
 use crate::range::{range_forbidden, record_range};
 use machine::channel::{
     ChannelOperation, ChannelProgress, ChannelReason, ChannelRecord, ChannelRequest,
 };
 use machine::{AccessKind, Settings};
 
-// How many bytes of a buffer are left behind those that were used; none where the position lies behind its end.
-fn left(length: usize, used: usize) -> usize
-    ensures { result ≡ length - used }
-{
-    if length < used {
-        return 0;
-    }
-    length - used
-}
-
-// What the device has left for a CCW: room for one that fetches from storage, bytes for one that stores.
+// What the device has left for a CCW: room for one that fetches from storage, bytes for one that stores; nothing where the position lies behind
+// the end of the buffer.
 fn device_left(
     state: ChannelRecord,
     kind: AccessKind,
@@ -31,12 +22,13 @@ fn device_left(
     ensures { result ≡ device_left kind from_length room_length state }
 {
     match kind {
-        AccessKind::Fetch => left(room_length, state.given),
-        AccessKind::Store => left(from_length, state.taken),
+        AccessKind::Fetch => room_length.saturating_sub(state.given),
+        AccessKind::Store => from_length.saturating_sub(state.taken),
     }
 }
 
-// Data is fetched from storage and given to the device.
+// Data is fetched from storage and given to the device. Giving and taking are two functions: each writes to a slice that the other reads. Address, count
+// and chaining are those of the operation, which is matched once.
 fn give_data(
     settings: Settings,
     storage: &[u8],
@@ -107,14 +99,14 @@ pub(crate) fn transfer_data(
     let at = address as usize;
     let n = count as usize;
     if storage.len() < at + n {
-        return refused(progress, ChannelReason::Program);
+        return answered(progress, Err(ChannelReason::Program));
     }
     let state = progress.state;
     if device_left(state, kind, from_device.len(), room.len()) < n {
-        return refused(progress, ChannelReason::Device);
+        return answered(progress, Err(ChannelReason::Device));
     }
     if range_forbidden(settings, kind, request.key as u8, &keys[..], at, n) {
-        return refused(progress, ChannelReason::Protection);
+        return answered(progress, Err(ChannelReason::Protection));
     }
     match kind {
         AccessKind::Fetch => give_data(

@@ -1,5 +1,6 @@
 -- A call by what the storage unit serves: completed, refused, without a record, or past the last operation. A completed request had a record that
 -- line 65 lets pass, so its bytes are known, and what is written over them is the record that the step leaves. Assumes nothing.
+use Rattle.std.specs.Prelude.{Err}
 use Prim.Native.Nat.{ℕ, ◌+◌, ◌<◌, ◌≤◌}
 use mathlib.Core.Path.{◌≡◌, refl, sym, ap, subst, ◌∙◌}
 use mathlib.Core.Bool.{Bool, true, false, not, ◌&&◌}
@@ -8,20 +9,18 @@ use mathlib.Core.List.{List, []}
 use native.Mathlib.Decide.{ℕ_discrete}
 use lib.ListN.{length, get_or, set}
 use lib.Seq.{set-get_or}
-use borrow.Author.Tests.{eq-eqb, ne_eqb}
+use lib.Dec.{eqb}
+use borrow.Author.Tests.{eq-eqb, ne_eqb, lt-ltb, le-ltb}
 use Rattle.machine.specs.declared.Settings.{Settings}
 use Rattle.machine.specs.declared.Processor.{Processor}
 use Rattle.machine.specs.declared.PrefixInstruction.{PrefixInstruction}
 use Rattle.machine.specs.declared.PrefixInstruction.TheVariants.{SetPrefix, StorePrefix}
 use Rattle.machine.specs.declared.Request.{Request}
 use Rattle.machine.specs.declared.Request.TheVariants.{Prefix}
-use Rattle.machine.specs.declared.Answer.{Answer}
+use Rattle.machine.specs.Answers.{Answer, Verdict, Clear, Stop, number_of, values, line, first_of, first_line, answer_of, stops}
 use Rattle.machine.specs.declared.Reason.TheVariants.{Operand}
-use Rattle.machine.specs.declared.Verdict.{Verdict}
-use Rattle.machine.specs.declared.Verdict.TheVariants.{Clear, Stop}
 use Rattle.machine.specs.Lists.{written}
 use Rattle.machine.specs.Numbers.{lengths_valid, record_valid}
-use Rattle.machine.specs.Answers.{number_of, values, line, first_of, first_line, answer_of, stops}
 use Rattle.machine.specs.Table.{configuration, own_record, before_protection, verdict}
 use Rattle.machine.specs.Step.{with_code, with_prefix, outcome, completed, step}
 use Rattle.machine.specs.Pair.{without_record}
@@ -31,7 +30,8 @@ use Rattle.machine.proofs.Conditions.{answer_in_table}
 use Rattle.machine.proofs.OwnRecord.{wrong_record}
 use Rattle.machine.proofs.Verdicts.{first_assoc}
 use Rattle.machine.proofs.Requests.{NoAccess, with_any_buffer, either_way, refused_request, refused_changes_nothing, completed_cleared, controls_stay}
-use Rattle.boundary.specs.Boundary.{record_at, record_bytes, request_of, packed, Packs, call_outcome, records_left, call_served, CallCondition1}
+use Rattle.boundary.specs.Boundary.{settings_of, record_at, record_bytes, request_of, packed, Packs}
+use Rattle.boundary.specs.Boundary.{call_outcome, records_left, call_served, called_with, called, CallCondition1}
 use Rattle.boundary.specs.Words.{word_at, state_valid}
 use Rattle.boundary.proofs.Records.{Holds, valid_record_is_written}
 use Rattle.boundary.proofs.Words.{state_wrong}
@@ -192,7 +192,7 @@ wrong_call bytes s storage keys at r buffer byte wrong given =
 stopped : (v : Verdict) → stops (first_of v (Stop Operand 0)) ≡ true
 unfolding first_of
 stopped Clear = refl
-stopped (Stop reason place) = refl
+stopped (Err refusal) = refl
 
 -- both conditions of a call with an operation number past the last
 pub past_last_call : (bytes : List ℕ) (s : Settings) (storage keys : List ℕ) (at : ℕ) {p : Processor} (operation a b : ℕ) (buffer : List ℕ) {result : ℕ}
@@ -205,3 +205,21 @@ past_last_call bytes s storage keys at {p} operation a b buffer h read byte give
     let found = first_assoc _ _ _ ∙ sym (past_last_refused s (length storage) keys p operation a b (length buffer) h) in
     kept_call bytes s storage keys at (request_of operation a b) buffer (answer_of (first_of lines (Stop Operand 0)) 0 0) read
     (refused_request s storage keys p (request_of operation a b) buffer found 0 0 (stopped lines)) byte given
+
+and_false : (b : Bool) → b && false ≡ false
+and_false true = refl
+and_false false = refl
+
+-- a call without a record: its processor's number is not 0 or 1, or its records are not sixteen bytes
+module _ (settings : ℕ) (storage keys records : List ℕ) (n operation first second : ℕ) (buffer : List ℕ) {result : ℕ} (fits : settings < 4)
+    (given : Packs result (answer_of (without_record (settings_of settings) (length storage) (length keys)) 0 0)) where
+  abbrev CallRefused : Type 0
+  CallRefused = call_outcome result storage keys records buffer ≡ called settings storage keys records n operation first second buffer
+
+  pub no_processor : 2 ≤ n → CallRefused
+  unfolding called called_with
+  no_processor h = rw (given.0, lt-ltb _ _ fits, le-ltb n 2 h, and_false (eqb (length records) 16))
+
+  pub no_records : length records ≢ 16 → CallRefused
+  unfolding called called_with
+  no_records d = rw (given.0, lt-ltb _ _ fits, ne_eqb _ _ d)

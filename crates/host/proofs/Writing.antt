@@ -1,12 +1,14 @@
 -- Where only condition code and prefix differ, writing these over the bytes of a record is enough: the other bytes are there already.
--- Assumes nothing.
-use Prim.Native.Nat.{ℕ, ◌+◌, ◌<◌}
+-- Bytes that are written one after the other are a part that is put in. Assumes nothing.
+use Prim.Native.Nat.{ℕ, zero, suc, ◌+◌, ◌<◌, ◌≤◌}
 use mathlib.Core.Path.{◌≡◌, refl, sym, ap, ◌∙◌}
 use mathlib.Core.List.{List, [], ◌∷◌}
 use native.Mathlib.Decide.{ℕ_discrete}
 use native.Mathlib.Omega.{arith}
-use lib.ListN.{get_or, set}
-use lib.Seq.{get_or-append-add, get_or-set_other, set-get_or, set_comm}
+use lib.ListN.{length, get_or, set}
+use lib.Seq.{paste, get_or-append-add, get_or-set_other, set-get_or, set_comm}
+use native.Mathlib.Numerals.{add-one}
+use Rattle.std.proofs.lemmas.List.Edits.{paste_none, paste_more}
 use borrow.Author.Tests.{eq-eqb, ne_eqb}
 use Rattle.machine.specs.declared.Processor.{Processor}
 use Rattle.machine.specs.Lists.{written}
@@ -15,6 +17,14 @@ use Rattle.machine.proofs.Written.{written_back}
 use Rattle.boundary.specs.Boundary.{record_at, prefix_bytes, record_bytes}
 use Rattle.boundary.proofs.Records.{Holds, joined}
 use Rattle.host.specs.Writing.{prefix_put, record_put}
+
+pub written_is_paste : (xs : List ℕ) (at : ℕ) (bytes : List ℕ) (place : ℕ → ℕ) (n : ℕ) → ((i : ℕ) → place i ≡ at + i)
+    → at + n ≤ length xs → n ≤ length bytes → written xs place (λ i. get_or bytes i 0) n ≡ paste xs at bytes n
+unfolding written
+written_is_paste xs at bytes place zero e h k = paste_none xs at bytes
+written_is_paste xs at bytes place (suc n) e h k =
+    rw (written_is_paste xs at bytes place n e (omega arith) (omega arith), e n, ← add-one n)
+    (paste_more xs at bytes n 0 (omega arith) (omega arith))
 
 -- Over the bytes of p, condition code and prefix are all that has to be written of q, which is p but for these.
 module _ (bytes : List ℕ) (at : ℕ) (p q : Processor) (holds : Holds bytes at p) (kept : q ≡ with_prefix (with_code p q.code) q.prefix) where

@@ -11,10 +11,9 @@ ghost use Rattle.machine.specs.Pair.{without_record};
 ghost use Rattle.boundary.specs.Boundary.{version_number, Packs, call_outcome, called, CallCondition1};
 
 use crate::serve::serve_bytes;
-use boundary::{pack, settings_of};
-use machine::{Answer, Reason, Settings};
-use table::answers::answer_of;
-use table::numbers::without_record;
+use boundary::{pack, settings_in};
+use machine::{Reason, Refusal};
+use table::numbers::Sizes;
 
 // The version of the boundary.
 pub fn storage_unit_version() -> u32
@@ -23,17 +22,22 @@ pub fn storage_unit_version() -> u32
     400
 }
 
-// The answer where line 64 refuses the lengths, where there is no record, or where line 65 refuses it.
-pub fn refused(settings: Settings, storage_length: usize, key_length: usize) -> u64
-    ensures { Packs result (answer_of (without_record settings storage_length key_length) 0 0) }
+// The answer where line 64 refuses the sizes, where there is no record, or where line 65 refuses it.
+#[tactic(auto, unfolding(machine::specs::Answers::first_of))]
+pub fn refused(sizes: Sizes) -> u64
+    ensures { Packs result (answer_of (without_record sizes.settings sizes.storage sizes.keys) 0 0) }
 {
-    pack(answer_of(without_record(settings, storage_length, key_length), 0, 0))
+    let no_record = Refusal {
+        reason: Reason::Record,
+        place: 0,
+    };
+    pack(sizes.configuration_line().and(Err(no_record)))
 }
 
-// One request for one processor. `settings`: 1 the 4K facility, 2 the extensions. `records`: sixteen bytes, eight for each processor.
-// `operation`: 0 fetch, 1 store, 2 ISK, 3 SSK, 4 RRB, 5 ISKE, 6 SSKE, 7 RRBE, 8 SET PREFIX, 9 STORE PREFIX. `first`: the real address of an
-// access, R1, or the word of SET PREFIX. `second`: the length of an access, R2, or the address of RRB. The result has the word in bits 0 to
-// 31 from the right, the place in bits 32 to 39, the rule in bits 40 to 47 and the number in bits 48 to 63.
+// One request for one processor, with the parameters of the C interface. `settings`: 1 the 4K facility, 2 the extensions. `records`: sixteen bytes,
+// eight for each processor. `operation`: 0 fetch, 1 store, 2 ISK, 3 SSK, 4 RRB, 5 ISKE, 6 SSKE, 7 RRBE, 8 SET PREFIX, 9 STORE PREFIX. `first`: the
+// real address of an access, R1, or the word of SET PREFIX. `second`: the length of an access, R2, or the address of RRB. The result has the word in
+// bits 0 to 31 from the right, the place in bits 32 to 39, the rule in bits 40 to 47 and the number in bits 48 to 63.
 pub fn storage_unit_request(
     settings: u32,
     storage: &mut [u8],
@@ -51,15 +55,16 @@ pub fn storage_unit_request(
         ≡ called settings storage.old keys.old records.old processor_number operation first second
         buffer.old }
 {
-    if 4 <= settings {
-        return pack(Answer::Refused {
-            reason: Reason::Configuration,
-            place: 0,
-        });
+    let machine = match settings_in(settings) {
+        Ok(machine) => machine,
+        Err(refusal) => return pack(Err(refusal)),
+    };
+    let sizes = Sizes::of(machine, &storage[..], &keys[..]);
+    if 2 <= processor_number {
+        return refused(sizes);
     }
-    let machine = settings_of(settings);
-    if (records.len() == 16) & (processor_number < 2) {
-        serve_bytes(
+    match records.as_mut_array() {
+        Some(records) => serve_bytes(
             machine,
             storage,
             keys,
@@ -69,8 +74,7 @@ pub fn storage_unit_request(
             first,
             second,
             buffer,
-        )
-    } else {
-        refused(machine, storage.len(), keys.len())
+        ),
+        None => refused(sizes),
     }
 }

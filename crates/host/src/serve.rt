@@ -1,72 +1,48 @@
-// A request of processor 0 or 1 over the bytes of the records. Requests are told apart by their operation number, and each then makes its record of
-// the two words that were read. That no request is put together to be told apart again, as one is for `storage_unit::serve`, and that each takes its
-// record apart by itself, is for speed (docs/BENCHMARK.md).
-ghost use Rattle.std.specs.Prelude.{◌≡◌, ◌*◌, ◌<◌, ◌≤◌, length};
-ghost use Rattle.machine.specs.Answers.{answer_of, first_of};
+// A request of processor 0 or 1 over the bytes of the records. Requests are told apart by their operation number, which is that of the C interface,
+// and each then makes its record of the two words that were read. That no request is put together to be told apart again, as one is for
+// `storage_unit::serve`, and that each takes its record apart by itself, is for speed (docs/BENCHMARK.md). Storage, keys, records and buffer are
+// parameters and no struct: what is lent is written in part, and clauses would speak of what each field of a struct was lent from. For the same
+// reason `IsOwn` is a clause: it relates a record to the bytes that are lent.
+ghost use Rattle.std.specs.Prelude.{◌≡◌, ◌*◌, ◌<◌, ◌≤◌};
+ghost use Rattle.machine.specs.Answers.{Stop, answer_of, first_of};
 ghost use Rattle.machine.specs.Table.{configuration, own_record};
-ghost use Rattle.boundary.specs.Boundary.{request_of, record_at, Packs};
+ghost use Rattle.boundary.specs.Boundary.{request_of, Packs};
 ghost use Rattle.boundary.specs.Words.{record_of};
 ghost use Rattle.host.specs.Writing.{record_put};
-ghost use Rattle.host.specs.Serving.{Met, MetByInstruction};
+ghost use Rattle.host.specs.Serving.{Met, MetByInstruction, IsOwn};
 
-use crate::record::{put_prefix, put_record, word_at};
+use crate::record::Own;
 use crate::refused;
 use access::{fetch, store};
-use boundary::{pack, record_of, state_valid};
+use boundary::pack;
 use key_instruction::insert::{isk, iske};
 use key_instruction::reset::{rrb, rrbe};
 use key_instruction::set::{ssk, sske};
-use machine::{PrefixInstruction, Processor, Reason, Request, Served, Settings, Verdict};
+use machine::{PrefixInstruction, Processor, Reason, Refusal, Request, Served, Settings};
 use storage_unit::prefix::prefix_instruction;
-use table::answers::{answer_of, first_of};
-use table::numbers::{lengths_valid, valid};
-
-// The record of a request's processor in the bytes of the records: from where on it stands, and its two words.
-#[derive(Clone, Copy)]
-struct Own {
-    at: usize,
-    state: u32,
-    prefix: u32,
-}
-
-impl Own {
-    // The record in the two words.
-    fn record(self) -> Processor
-        ensures { result ≡ record_of self.state self.prefix }
-    {
-        record_of(self.state, self.prefix)
-    }
-}
+use table::numbers::Sizes;
 
 // Writes the condition code that RRB or RRBE leaves, changed or not, and packs the answer.
-fn write_back(records: &mut [u8], own: Own, served: Served) -> u64
-    requires { (length records.old ≡ 16) × (own.at ≤ 8) }
-    ensures { (records.new ≡ record_put records.old own.at (record_of own.state own.prefix) served.processor)
-        × (Packs result served.answer) }
+fn write_back(records: &mut [u8; 16], own: Own, served: Served) -> u64
+    ensures records { records.new ≡ record_put records.old own.at (record_of own.words.state own.words.prefix) served.processor }
+    ensures packed { Packs result served.answer }
 {
-    let answer = served.answer;
-    let processor = served.processor;
-    put_record(records, own.at, own.record(), processor);
-    pack(answer)
+    own.put(records, served.processor);
+    pack(served.answer)
 }
 
 // The answer to an operation number past the last: 66, where lines 64 and 65 let the record p pass.
-fn unknown_operation(
-    settings: Settings,
-    storage_length: usize,
-    key_length: usize,
-    p: Processor,
-) -> u64
+#[tactic(auto, unfolding(machine::specs::Answers::first_of))]
+fn unknown_operation(sizes: Sizes, p: Processor) -> u64
     ensures { Packs result
-        (answer_of (first_of (first_of (configuration settings storage_length key_length) (own_record storage_length p)) (Verdict.Stop Reason.Operand 0))
+        (answer_of (first_of (first_of (configuration sizes.settings sizes.storage sizes.keys) (own_record sizes.storage p)) (Stop Reason.Operand 0))
         0 0) }
 {
-    let machine = valid(settings, storage_length, key_length, p);
-    let operand = Verdict::Stop {
+    let operand = Refusal {
         reason: Reason::Operand,
         place: 0,
     };
-    pack(answer_of(first_of(machine, operand), 0, 0))
+    pack(sizes.lines(p).and(Err(operand)))
 }
 
 // A prefix instruction, whatever the buffer. It changes nothing but the prefix of its record, and nothing else is written: a byte that was written
@@ -75,19 +51,17 @@ fn prefix_words(
     settings: Settings,
     storage: &[u8],
     keys: &[u8],
-    records: &mut [u8],
+    records: &mut [u8; 16],
     own: Own,
     instruction: PrefixInstruction,
 ) -> u64
-    requires { (length records.old ≡ 16) × (own.at ≤ 8) × (record_of own.state own.prefix ≡ record_at records.old own.at) }
+    requires { IsOwn own records.old }
     ensures { MetByInstruction settings (Request.Prefix instruction) own.at result
         storage.now keys.now records.old storage.now keys.now records.new }
 {
     let served = prefix_instruction(settings, storage, keys, own.record(), instruction);
-    let answer = served.answer;
-    let processor = served.processor;
-    put_prefix(records, own.at, own.prefix, processor.prefix);
-    pack(answer)
+    own.put_prefix(records, served.processor.prefix);
+    pack(served.answer)
 }
 
 // An instruction, or an operation past the last, whatever the buffer.
@@ -95,13 +69,13 @@ fn instruction_words(
     settings: Settings,
     storage: &[u8],
     keys: &mut [u8],
-    records: &mut [u8],
+    records: &mut [u8; 16],
     own: Own,
     operation: u32,
     r1: u32,
     r2: u32,
 ) -> u64
-    requires records_len { (length records.old ≡ 16) × (own.at ≤ 8) × (record_of own.state own.prefix ≡ record_at records.old own.at) }
+    requires is_own { IsOwn own records.old }
     requires le_operation { 2 ≤ operation }
     ensures { MetByInstruction settings (request_of operation r1 r2) own.at result
         storage.now keys.old records.old storage.now keys.new records.new }
@@ -125,7 +99,7 @@ fn instruction_words(
             let instruction = PrefixInstruction::StorePrefix;
             prefix_words(settings, storage, &keys[..], records, own, instruction)
         }
-        _ => unknown_operation(settings, storage.len(), keys.len(), own.record()),
+        _ => unknown_operation(Sizes::of(settings, storage, &keys[..]), own.record()),
     }
 }
 
@@ -134,14 +108,14 @@ fn serve_words(
     settings: Settings,
     storage: &mut [u8],
     keys: &mut [u8],
-    records: &mut [u8],
+    records: &mut [u8; 16],
     own: Own,
     operation: u32,
     first: u32,
     second: u32,
     buffer: &mut [u8],
 ) -> u64
-    requires { (length records.old ≡ 16) × (own.at ≤ 8) × (record_of own.state own.prefix ≡ record_at records.old own.at) }
+    requires { IsOwn own records.old }
     ensures { Met settings (request_of operation first second) own.at result
         storage.old keys.old records.old buffer.old
         storage.new keys.new records.new buffer.new }
@@ -175,25 +149,23 @@ pub(crate) fn serve_bytes(
     settings: Settings,
     storage: &mut [u8],
     keys: &mut [u8],
-    records: &mut [u8],
+    records: &mut [u8; 16],
     processor_number: usize,
     operation: u32,
     first: u32,
     second: u32,
     buffer: &mut [u8],
 ) -> u64
-    requires { (length records.old ≡ 16) × (processor_number < 2) }
+    requires { processor_number < 2 }
     ensures { Met settings (request_of operation first second) (processor_number * 8) result
         storage.old keys.old records.old buffer.old
         storage.new keys.new records.new buffer.new }
 {
-    let at = processor_number * 8;
-    let state = word_at(&records[..], at);
-    let prefix = word_at(&records[..], at + 4);
-    if !(lengths_valid(settings, storage.len(), keys.len()) & state_valid(state)) {
-        return refused(settings, storage.len(), keys.len());
+    let own = Own::read(records, processor_number);
+    let sizes = Sizes::of(settings, &storage[..], &keys[..]);
+    if !(sizes.valid() & own.words.is_valid()) {
+        return refused(sizes);
     }
-    let own = Own { at, state, prefix };
     serve_words(
         settings, storage, keys, records, own, operation, first, second, buffer,
     )

@@ -3,9 +3,11 @@
 -- the pair it is the call of the long way in.
 -- Assumes nothing.
 use Prim.Native.Nat.{ℕ, zero, suc, ◌+◌, ◌*◌, ◌/◌, ◌%◌, ◌<◌}
-use mathlib.Core.Path.{◌≡◌, refl, ap, ◌∙◌}
+use mathlib.Core.Path.{◌≡◌, refl, sym, ap, ◌∙◌}
 use mathlib.Core.Bool.{Bool, true, false, cond}
 use mathlib.Core.List.{List}
+use Rattle.std.specs.Prelude.{Ok, Err}
+use Rattle.machine.specs.declared.Refusal.{Refusal}
 use native.Mathlib.Decide.{ℕ_discrete}
 use native.Mathlib.Omega.{arith}
 use native.Mathlib.Nat.{zero-add}
@@ -15,15 +17,13 @@ use borrow.Author.Tests.{lt-ltb, eq-eqb, ne_eqb}
 use Rattle.machine.specs.declared.Settings.{Settings}
 use Rattle.machine.specs.declared.AccessKind.{AccessKind}
 use Rattle.machine.specs.declared.AccessKind.TheVariants.{Fetch, Store}
-use Rattle.machine.specs.declared.Reason.TheVariants.{Configuration}
-use Rattle.machine.specs.declared.Verdict.TheVariants.{Stop}
+use Rattle.machine.specs.declared.Reason.TheVariants.{Configuration, Record}
 use Rattle.machine.specs.declared.Processor.{Processor}
-use Rattle.machine.specs.declared.Answer.{Answer}
 use Rattle.machine.specs.declared.Request.TheVariants.{Access}
 use Rattle.machine.specs.Lists.{written}
-use Rattle.machine.specs.Answers.{values, answer_of}
+use Rattle.machine.specs.Answers.{Answer, Verdict, Stop, values, first_of, answer_of}
 use Rattle.machine.specs.Step.{Outcome, outcome, completed, step}
-use Rattle.machine.specs.Pair.{without_record}
+use Rattle.machine.specs.Table.{configuration}
 use Rattle.machine.proofs.Conditions.{answer_in_table}
 use Rattle.machine.proofs.OwnRecord.{wrong_record}
 use Rattle.machine.proofs.Requests.{either_way, refused_changes_nothing, completed_cleared}
@@ -32,9 +32,11 @@ use Rattle.machine.proofs.BeforeProtection.{cleared}
 use Rattle.machine.proofs.Written.{written_back}
 use Rattle.boundary.specs.Boundary.{settings_of, record_at, record_bytes, request_of, Packs, packed}
 use Rattle.boundary.specs.Boundary.{call_outcome, records_left, call_refused, called_with, called}
-use Rattle.boundary.specs.Words.{word_at, state_valid, record_of}
+use Rattle.boundary.specs.Words.{settings_in, word_at, state_valid, record_of}
 use Rattle.boundary.proofs.Records.{last_word, same_record, valid_record_is_written}
+use Rattle.boundary.proofs.Settings.{settings_unfit}
 use Rattle.boundary.proofs.Words.{state_wrong, state_read}
+use Rattle.host_access.specs.Entry.{Enters}
 use Rattle.host_access.specs.ShortWay.{number_bytes, record_in, access_outcome, access_served, accessed, AccessCondition1}
 
 -- the greater half of a number below 2^64, from its four bytes
@@ -96,14 +98,25 @@ module _ (s : Settings) (storage keys : List ℕ) (x : ℕ) (kind : AccessKind) 
     rw given.0 (ap access_served stepped),
   )
 
--- both conditions of a call whose record has a wrong state: it is refused as one that has no record
-pub wrong_access : (s : Settings) (storage keys : List ℕ) (x : ℕ) (kind : AccessKind) (address : ℕ) (bytes : List ℕ) {result : ℕ}
-    → state_valid (x % 4294967296) ≡ false → (given : Packs result (answer_of (without_record s (length storage) (length keys)) 0 0))
-    → Met s storage keys x kind address bytes (answer_of (without_record s (length storage) (length keys)) 0 0) given storage keys bytes
-wrong_access s storage keys x kind address bytes wrong given =
+-- with another bit on in the settings every access is refused
+pub settings_refused : (settings : ℕ) (refusal : Refusal) (storage keys : List ℕ) (x : ℕ) → settings_in settings ≡ Err refusal
+    → Enters (Err refusal) settings storage keys x
+unfolding accessed
+settings_refused settings refusal storage keys x found =
+    λ kind address bytes. let wrong = settings_unfit settings refusal found in rw (wrong.0, wrong.1)
+
+-- with a record whose state is wrong every access is refused, as one that has no record
+pub record_refused : (settings : ℕ) (v : Verdict) (storage keys : List ℕ) (x : ℕ) → settings < 4 → state_valid (x % 4294967296) ≡ false
+    → configuration (settings_of settings) (length storage) (length keys) ≡ v
+    → (kind : AccessKind) (address : ℕ) (bytes : List ℕ)
+    → accessed kind settings storage keys x address bytes
+    ≡ access_outcome (packed (values (answer_of (first_of v (Stop Record 0)) 0 0))) storage keys bytes
+unfolding accessed
+record_refused settings v storage keys x fits wrong found kind address bytes =
+    let s = settings_of settings in
     let refused = state_wrong (number_bytes x) 0 (number_byte x) (length storage) (rw (last_word x) at wrong) in
-    served_access s storage keys x kind address bytes (answer_of (without_record s (length storage) (length keys)) 0 0) given
-    (wrong_record s storage keys (record_in x) (Access kind address (length bytes)) bytes refused)
+    rw (lt-ltb _ _ fits, ← found)
+    (sym (ap access_served (wrong_record s storage keys (record_in x) (Access kind address (length bytes)) bytes refused)))
 
 -- An access leaves the record of its processor; so it leaves the bytes of the records.
 module _ (s : Settings) (storage keys records : List ℕ) (at : ℕ) (kind : AccessKind) (address count : ℕ) (buffer : List ℕ)

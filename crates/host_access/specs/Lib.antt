@@ -1,2 +1,4 @@
 -- What the short way in means.
 pub mod ShortWay
+-- How a call begins
+pub mod Entry

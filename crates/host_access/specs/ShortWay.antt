@@ -5,8 +5,7 @@ use Rattle.machine.specs.declared.Processor.{Processor}
 use Rattle.machine.specs.declared.AccessKind.{AccessKind}
 use Rattle.machine.specs.declared.Request.TheVariants.{Access}
 use Rattle.machine.specs.declared.Reason.TheVariants.{Configuration}
-use Rattle.machine.specs.declared.Verdict.TheVariants.{Stop}
-use Rattle.machine.specs.Answers.{values, answer_of}
+use Rattle.machine.specs.Answers.{Stop, values, answer_of}
 use Rattle.machine.specs.Step.{Outcome, step}
 use Rattle.machine.specs.Conditions.{numbers, is_in}
 use Rattle.boundary.specs.Boundary.{settings_of, record_at, packed, number_in}

@@ -4,26 +4,49 @@
 // `host_access_c`, is compiled apart into an object of its own (docs/BENCHMARK.md).
 #![tactic(auto)]
 
-ghost use Rattle.std.specs.Prelude.{◌/◌, ◌%◌, ◌≡◌};
+ghost use Rattle.std.specs.Prelude.{◌≡◌};
 ghost use Rattle.host_access.specs.ShortWay.{access_outcome, accessed, AccessCondition1};
+ghost use Rattle.host_access.specs.Entry.{words_in, Enters};
 
 use access::{fetch, store};
-use boundary::{pack, record_of, settings_of, state_valid};
-use host::refused;
-use machine::{AccessKind, Answer, Reason};
+use boundary::{RecordWords, pack, settings_in};
+use machine::{AccessKind, Processor, Reason, Refusal, Settings};
+use table::numbers::Sizes;
 
-// The state of the record in a number: its lesser half.
-fn state_in(record: u64) -> u32
-    ensures { result ≡ «record» % 4294967296 }
+// The words of the record in a number: the state is its lesser half, the prefix its greater half.
+fn words_in(record: u64) -> RecordWords
+    ensures { result ≡ words_in «record» }
 {
-    (record % 4294967296) as u32
+    RecordWords {
+        state: (record % 4294967296) as u32,
+        prefix: (record / 4294967296) as u32,
+    }
 }
 
-// The prefix of the record in a number: its greater half.
-fn prefix_in(record: u64) -> u32
-    ensures { result ≡ «record» / 4294967296 }
+// What an access is made with beside its operands: the settings and the processor's own record.
+#[derive(Clone, Copy)]
+struct Entry {
+    settings: Settings,
+    p: Processor,
+}
+
+// The settings and the record in these numbers; a refusal where the settings have another bit on, or where no processor has such a record.
+fn enter(settings: u32, storage: &[u8], keys: &[u8], record: u64) -> Result<Entry, Refusal>
+    ensures { Enters result settings storage.now keys.now «record» }
 {
-    (record / 4294967296) as u32
+    let settings = settings_in(settings)?;
+    let words = words_in(record);
+    if !words.is_valid() {
+        Sizes::of(settings, storage, keys).configuration_line()?;
+        return Err(Refusal {
+            reason: Reason::Record,
+            place: 0,
+        });
+    }
+    Ok(Entry {
+        settings,
+        p: words.into(),
+    })
 }
 
 // A fetch of as many bytes as `bytes` has. `settings`: 1 the 4K facility, 2 the extensions. `record`: the eight bytes of the processor's own
@@ -41,20 +64,13 @@ pub fn storage_unit_fetch(
     ensures condition_2 { access_outcome result storage.now keys.new bytes.new
         ≡ accessed AccessKind.Fetch settings storage.now keys.old «record» address bytes.old }
 {
-    if 4 <= settings {
-        return pack(Answer::Refused {
-            reason: Reason::Configuration,
-            place: 0,
-        });
+    match enter(settings, storage, &keys[..], record) {
+        Ok(Entry { settings, p }) => {
+            let count = bytes.len();
+            pack(fetch(settings, storage, keys, p, address, count, bytes))
+        }
+        Err(refusal) => pack(Err(refusal)),
     }
-    let machine = settings_of(settings);
-    let state = state_in(record);
-    if !state_valid(state) {
-        return refused(machine, storage.len(), keys.len());
-    }
-    let p = record_of(state, prefix_in(record));
-    let count = bytes.len();
-    pack(fetch(machine, storage, keys, p, address, count, bytes))
 }
 
 // A store of all of `bytes`, which are only read. The other parameters and the result are those of `storage_unit_fetch`.
@@ -71,18 +87,11 @@ pub fn storage_unit_store(
     ensures condition_2 { access_outcome result storage.new keys.new bytes.now
         ≡ accessed AccessKind.Store settings storage.old keys.old «record» address bytes.now }
 {
-    if 4 <= settings {
-        return pack(Answer::Refused {
-            reason: Reason::Configuration,
-            place: 0,
-        });
+    match enter(settings, &storage[..], &keys[..], record) {
+        Ok(Entry { settings, p }) => {
+            let count = bytes.len();
+            pack(store(settings, storage, keys, p, address, count, bytes))
+        }
+        Err(refusal) => pack(Err(refusal)),
     }
-    let machine = settings_of(settings);
-    let state = state_in(record);
-    if !state_valid(state) {
-        return refused(machine, storage.len(), keys.len());
-    }
-    let p = record_of(state, prefix_in(record));
-    let count = bytes.len();
-    pack(store(machine, storage, keys, p, address, count, bytes))
 }

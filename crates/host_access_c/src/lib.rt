@@ -1,5 +1,5 @@
 // The calls of `host_access` for programs in C, Rust and other languages, in a static library: each calls the function of `host_access` of its name
-// and promises what that promises. What the numbers and bytes stand for is said there.
+// and promises what that promises. What the numbers and bytes stand for is said there. The parameters are those of C.
 #![tactic(auto)]
 
 ghost use Rattle.std.specs.Prelude.{◌≡◌};

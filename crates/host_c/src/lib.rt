@@ -1,5 +1,5 @@
 // The calls of `host` for programs in C, Rust and other languages, in a static library: each calls the function of `host` of its name and promises
-// what that promises. What the numbers and bytes stand for is said there.
+// what that promises. What the numbers and bytes stand for is said there. The parameters are those of C.
 #![tactic(auto)]
 
 ghost use Rattle.std.specs.Prelude.{◌≡◌};

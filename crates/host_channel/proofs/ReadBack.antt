@@ -14,11 +14,8 @@ use Rattle.machine.specs.declared.channel.ChannelRequest.{ChannelRequest}
 use Rattle.machine.specs.declared.channel.Chaining.{Chaining}
 use Rattle.machine.specs.declared.channel.Chaining.TheVariants.{First, Command, Transfer, Ended}
 use Rattle.machine.specs.declared.channel.ChannelReason.TheVariants.{Configuration, ChannelKey, Grant, GrantUsed, Program, Protection, Device}
-use Rattle.machine.specs.declared.channel.ChannelAnswer.TheVariants.{Completed, Refused}
-use Rattle.machine.specs.declared.channel.Standing.{Standing}
-use Rattle.machine.specs.declared.channel.Standing.TheVariants.{UnderWay, Answered}
+use Rattle.machine.specs.Channel.{Completed, Refused, Standing, UnderWay, Answered, answer_in}
 use Rattle.machine.specs.declared.channel.ChannelProgress.{ChannelProgress}
-use Rattle.machine.specs.Channel.{answer_in}
 use Rattle.machine.proofs.Written.{length-written, written_there, written_elsewhere}
 use Rattle.house_record.specs.Little.{little, little_bytes}
 use Rattle.house_record.proofs.LittleBytes.{little_same, little-append, little-written, length-little_bytes}

@@ -10,15 +10,12 @@ use Rattle.machine.specs.declared.channel.Chaining.TheVariants.{First, Command, 
 use Rattle.machine.specs.declared.channel.ChannelRecord.{ChannelRecord}
 use Rattle.machine.specs.declared.channel.ChannelReason.{ChannelReason}
 use Rattle.machine.specs.declared.channel.ChannelReason.TheVariants.{Configuration, ChannelKey, Grant, GrantUsed, Program, Protection, Device}
-use Rattle.machine.specs.declared.channel.ChannelAnswer.{ChannelAnswer}
-use Rattle.machine.specs.declared.channel.ChannelAnswer.TheVariants.{Completed, Refused}
-use Rattle.machine.specs.declared.channel.Standing.{Standing}
-use Rattle.machine.specs.declared.channel.Standing.TheVariants.{UnderWay, Answered}
+use Rattle.machine.specs.Channel.{ChannelAnswer, Completed, Refused, Standing, UnderWay, Answered, channel_values, channel, begun, channel_step}
+use Rattle.machine.specs.Channel.{ChannelOutcome, outcome_in, channel_run}
 use Rattle.machine.specs.declared.channel.ChannelProgress.{ChannelProgress}
 use Rattle.machine.specs.Lists.{written}
 use Rattle.machine.specs.Numbers.{lengths_valid}
 use Rattle.machine.specs.Answers.{Values}
-use Rattle.machine.specs.Channel.{channel_values, channel, begun, channel_step, ChannelOutcome, outcome_in, channel_run}
 use Rattle.house_record.specs.Little.{little, little_bytes}
 use Rattle.boundary.specs.Boundary.{settings_of, packed}
 

@@ -2,40 +2,33 @@
 // is asked of the caller: whatever the numbers and bytes are, the call ends with an answer. One step of a request is in `host_channel_step`.
 #![tactic(auto)]
 
+pub mod numbers;
 pub mod progress;
 
 ghost use Rattle.std.specs.Prelude.{◌≡◌};
 ghost use Rattle.boundary.specs.Boundary.{packed};
-ghost use Rattle.machine.specs.Channel.{channel_values};
+ghost use Rattle.machine.specs.Channel.{channel_values, Refused};
 ghost use Rattle.host_channel.specs.ChannelCalls.{unfit_answer, channel_call, channel_called};
 
-use crate::progress::{put_progress, result_of, status_of};
-use boundary::settings_of;
+use crate::progress::{PROGRESS_LENGTH, leave_progress, result_of};
+use boundary::settings_in;
 use channel::channel_request;
-use machine::Settings;
-use machine::channel::{ChannelAnswer, ChannelReason, ChannelRequest};
-use table::numbers::lengths_valid;
-
-// How many bytes a progress has.
-const PROGRESS_LENGTH: usize = 32;
+use machine::channel::{ChannelProgress, ChannelReason, ChannelRequest};
+use table::numbers::Sizes;
 
 // The result where the settings have another bit on, or where the bytes are no progress and the lengths are wrong.
 pub fn settings_refused() -> u64
-    ensures { result ≡ packed (channel_values (ChannelAnswer.Refused ChannelReason.Configuration)) }
+    ensures { result ≡ packed (channel_values (Refused ChannelReason.Configuration)) }
 {
-    result_of(ChannelAnswer::Refused {
-        reason: ChannelReason::Configuration,
-    })
+    result_of(Err(ChannelReason::Configuration))
 }
 
 // The result where the bytes are no progress: 64 for the lengths, else 65.
-pub fn progress_refused(settings: Settings, storage_length: usize, key_length: usize) -> u64
-    ensures { result ≡ packed (channel_values (unfit_answer settings storage_length key_length)) }
+pub fn progress_refused(sizes: Sizes) -> u64
+    ensures { result ≡ packed (channel_values (unfit_answer sizes.settings sizes.storage sizes.keys)) }
 {
-    if lengths_valid(settings, storage_length, key_length) {
-        result_of(ChannelAnswer::Refused {
-            reason: ChannelReason::ChannelKey,
-        })
+    if sizes.valid() {
+        result_of(Err(ChannelReason::ChannelKey))
     } else {
         settings_refused()
     }
@@ -59,16 +52,19 @@ pub fn storage_unit_channel(
         ≡ channel_called settings storage.old keys.old (record { key = key; first = first; grant = grant })
         from_device.now room.old progress.old }
 {
-    if 4 <= settings {
+    let Ok(machine) = settings_in(settings) else {
         return settings_refused();
-    }
-    let machine = settings_of(settings);
+    };
     if progress.len() != PROGRESS_LENGTH {
-        return progress_refused(machine, storage.len(), keys.len());
+        return progress_refused(Sizes::of(machine, storage, keys));
     }
     let request = ChannelRequest { key, first, grant };
     let reply = channel_request(machine, storage, keys, request, from_device, room);
-    let answer = reply.answer;
-    put_progress(progress, reply.state, reply.count, status_of(answer));
-    result_of(answer)
+    let after = ChannelProgress {
+        state: reply.state,
+        fetched: reply.count,
+        standing: Some(reply.answer),
+    };
+    leave_progress(progress, after);
+    result_of(reply.answer)
 }

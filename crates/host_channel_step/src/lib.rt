@@ -6,13 +6,12 @@
 ghost use Rattle.std.specs.Prelude.{◌≡◌};
 ghost use Rattle.host_channel.specs.ChannelCalls.{channel_call, channel_step_called};
 
-use boundary::settings_of;
+use boundary::settings_in;
 use channel::channel_step;
-use host_channel::progress::{
-    progress_in, progress_valid, put_progress, standing_result, standing_status,
-};
+use host_channel::progress::{leave_progress, progress_of, standing_result};
 use host_channel::{progress_refused, settings_refused};
 use machine::channel::ChannelRequest;
+use table::numbers::Sizes;
 
 // One step of a request, which is one CCW: the same operands at each step, and the progress as the step before left it, zeros at the start. While
 // the request is under way the result has the number 255; a step of a request that has answered changes nothing and gives the answer again.
@@ -31,22 +30,14 @@ pub fn storage_unit_channel_step(
         ≡ channel_step_called settings storage.old keys.old (record { key = key; first = first; grant = grant })
         from_device.now room.old progress.old }
 {
-    if 4 <= settings {
+    let Ok(machine) = settings_in(settings) else {
         return settings_refused();
-    }
-    let machine = settings_of(settings);
-    if !progress_valid(&progress[..]) {
-        return progress_refused(machine, storage.len(), keys.len());
-    }
+    };
     let request = ChannelRequest { key, first, grant };
-    let before = progress_in(request, &progress[..]);
+    let Some(before) = progress_of(request, progress) else {
+        return progress_refused(Sizes::of(machine, storage, keys));
+    };
     let after = channel_step(machine, storage, keys, request, before, from_device, room);
-    let standing = after.standing;
-    put_progress(
-        progress,
-        after.state,
-        after.fetched,
-        standing_status(standing),
-    );
-    standing_result(standing)
+    leave_progress(progress, after);
+    standing_result(after.standing)
 }

@@ -1,5 +1,5 @@
 // The call of `host_channel_step` for programs in C, Rust and other languages, in a static library: it calls the function of `host_channel_step` of
-// its name and promises what that promises. What the numbers and bytes stand for is said there.
+// its name and promises what that promises. What the numbers and bytes stand for is said there. The parameters are those of C.
 #![tactic(auto)]
 
 ghost use Rattle.std.specs.Prelude.{◌≡◌};

@@ -8,13 +8,10 @@ ghost use Rattle.std.specs.Prelude.{◌≡◌};
 ghost use Rattle.host_player.specs.Playing.{play_call, play_called};
 
 use crate::state::{player_in, put_player, status_number};
-use boundary::settings_of;
+use boundary::settings_in;
 use player::play;
 
-// How many bytes a player has.
-const PLAYER_LENGTH: usize = 48;
-
-// The result of a call that is refused.
+// The result of a call that is refused: a number of the C interface.
 const REFUSED: u32 = 4;
 
 // Plays a piece of a recording. `settings`: 1 the 4K facility, 2 the extensions. `player`: 48 bytes, the records of both processors, then
@@ -33,23 +30,16 @@ pub fn storage_unit_play(
     ensures { play_call result storage.new keys.new player.new output.new
         ≡ play_called settings storage.old keys.old player.old piece.now last output.old }
 {
-    if 4 <= settings {
+    let Ok(machine) = settings_in(settings) else {
         return REFUSED;
+    };
+    match player.as_mut_array() {
+        Some(player) => {
+            let before = player_in(player);
+            let played = play(machine, storage, keys, before, piece, last != 0, output);
+            put_player(player, played);
+            status_number(played.status)
+        }
+        None => REFUSED,
     }
-    if player.len() != PLAYER_LENGTH {
-        return REFUSED;
-    }
-    let before = player_in(&player[..]);
-    let played = play(
-        settings_of(settings),
-        storage,
-        keys,
-        before,
-        piece,
-        last != 0,
-        output,
-    );
-    put_player(player, played);
-    let status = played.status;
-    status_number(status)
 }

@@ -1,31 +1,32 @@
--- One key or two, each replaced by a function of it one after the other, are the run of writes of the rules: the key of unit u + 1 is
--- as it was when that of unit u has been written. Assumes nothing.
+-- The keys as the code reads and writes them are the rules': one key as two that are the same, each written by what was read before.
+-- Assumes nothing.
 use Prim.Native.Nat.{ℕ, ◌+◌}
-use mathlib.Core.Path.{◌≡◌, ◌∙◌}
+use mathlib.Core.Path.{◌≡◌, refl}
+use mathlib.Core.Bool.{Bool, true, false, cond}
 use mathlib.Core.List.{List}
 use native.Mathlib.Nat.{add-zero}
-use native.Mathlib.Omega.{arith}
 use lib.ListN.{get_or, set}
-use lib.Seq.{get_or-set_other, set-set}
+use lib.Seq.{set-set}
+use Rattle.machine.specs.declared.KeyOperation.TheVariants.{Set, Reset}
+use Rattle.machine.specs.Key.{key_in_word, after_reset, joined}
 use Rattle.machine.specs.Lists.{written}
+use Rattle.machine.specs.KeyInstructions.{key_read, keys_left}
+use Rattle.machine.proofs.KeyBytes.{joined_with_itself}
 
--- the key of unit u replaced
-abbrev replaced : (ℕ → ℕ) → List ℕ → ℕ → List ℕ
-replaced f keys u = set keys u (f (get_or keys u 0))
+module _ (keys : List ℕ) (u : ℕ) where
+  pub joined_is_read : (two : Bool) → joined (get_or keys u 0) (get_or keys (u + cond two 1 0) 0) ≡ key_read keys u two
+  joined_is_read true = refl
+  joined_is_read false = rw add-zero (joined_with_itself (get_or keys u 0))
 
-module _ (f : ℕ → ℕ) (keys : List ℕ) (u : ℕ) where
-  pub one_key : replaced f keys u ≡ written keys (λ j. u + j) (λ j. f (get_or keys (u + j) 0)) 1
-  unfolding written
-  one_key = simp add-zero
+  pub keys_set : (two : Bool) (r1 : ℕ)
+      → set (set keys u (key_in_word r1)) (u + cond two 1 0) (key_in_word r1) ≡ keys_left keys u two (Set r1)
+  unfolding keys_left written
+  keys_set true r1 = simp add-zero
+  keys_set false r1 = rw add-zero (set-set keys u (key_in_word r1) (key_in_word r1))
 
-  -- one key that is replaced twice, and two keys that are both read before they are replaced
-  pub one_key_twice : set (replaced f keys u) u (f (get_or keys u 0)) ≡ written keys (λ j. u + j) (λ j. f (get_or keys (u + j) 0)) 1
-  one_key_twice = set-set keys u (f (get_or keys u 0)) (f (get_or keys u 0)) ∙ one_key
-
-  pub two_keys_read : set (replaced f keys u) (u + 1) (f (get_or keys (u + 1) 0)) ≡ written keys (λ j. u + j) (λ j. f (get_or keys (u + j) 0)) 2
-  unfolding written
-  two_keys_read = simp add-zero
-
-  pub two_keys_lem : replaced f (replaced f keys u) (u + 1) ≡ written keys (λ j. u + j) (λ j. f (get_or keys (u + j) 0)) 2
-  unfolding written
-  two_keys_lem = rw (get_or-set_other keys u (u + 1) (f (get_or keys u 0)) 0 (omega arith)) (simp add-zero)
+  pub keys_reset : (two : Bool)
+      → set (set keys u (after_reset (get_or keys u 0))) (u + cond two 1 0) (after_reset (get_or keys (u + cond two 1 0) 0))
+      ≡ keys_left keys u two Reset
+  unfolding keys_left written
+  keys_reset true = simp add-zero
+  keys_reset false = simp add-zero (set-set keys u (after_reset (get_or keys u 0)) (after_reset (get_or keys u 0)))

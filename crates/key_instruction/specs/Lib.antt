@@ -1,3 +1,2 @@
--- What the helpers of this crate ask and give.
-pub mod Lines
-pub mod Units
+-- What the helpers of this crate give.
+pub mod Blocks

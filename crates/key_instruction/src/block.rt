@@ -1,42 +1,35 @@
-// The block that an instruction designates: its real address, the unit of its first key, and the rule of prefixing.
+// The block that an instruction designates: the units of its keys, and the rule of prefixing.
 ghost use Rattle.std.specs.Prelude.{◌≡◌};
-ghost use Rattle.machine.specs.Numbers.{unit_of};
-ghost use Rattle.machine.specs.Prefixing.{absolute, rule};
-ghost use Rattle.machine.specs.KeyInstructions.{block_2k, block_4k};
+ghost use Rattle.machine.specs.Answers.{Clear};
+ghost use Rattle.machine.specs.Table.{before_protection};
+ghost use Rattle.key_instruction.specs.Blocks.{Works};
 
-use machine::{Processor, Settings};
+use crate::instruction::{designated, two_keys};
+use machine::{KeyInstruction, Processor, Request};
 use prefixing::prefixed;
-use table::numbers::unit_of;
+use table::numbers::{Sizes, unit_of};
 
-// Where a block lies: the unit of its absolute address, and the rule that gave the address.
+// Where the keys of a block lie: the unit of the low-order key, that of the high-order one, and the rule that gave the block's address. One
+// key is both.
 #[derive(Clone, Copy)]
 pub(crate) struct Block {
-    pub unit: usize,
+    pub low: usize,
+    pub high: usize,
     pub rule: u32,
 }
 
-// The real address of the 2K block that bits 8-20 of a word designate.
-pub(crate) fn block_2k(word: u32) -> u32
-    ensures { result ≡ block_2k word }
+// The block of an instruction of a processor with the record p that no line of the table refuses. Its keys are in the key array.
+#[inline(always)]
+pub(crate) fn block_of(sizes: Sizes, p: Processor, instruction: KeyInstruction) -> Block
+    requires { before_protection sizes.settings sizes.storage sizes.keys p (Request.Key instruction) 0 ≡ Clear }
+    ensures { Works sizes.settings sizes.keys p instruction result }
 {
-    word / 2048 % 8192 * 2048
-}
-
-// The real address of the 4K block that bits 1-19 of a word designate.
-pub(crate) fn block_4k(word: u32) -> u32
-    ensures { result ≡ block_4k word }
-{
-    word / 4096 % 524288 * 4096
-}
-
-// Where the block with this real address lies for a processor with the record p.
-pub(crate) fn found_at(settings: Settings, p: Processor, block: u32) -> Block
-    ensures { result ≡ record { unit = unit_of settings (absolute p.prefix block); rule = rule p.prefix block } }
-{
-    let at = prefixed(p.prefix, block);
-    let unit = unit_of(settings, at.absolute as usize);
+    let at = prefixed(p.prefix, designated(instruction));
+    let low = unit_of(sizes.settings, at.absolute as usize);
+    let high = low + two_keys(sizes.settings, instruction) as usize;
     Block {
-        unit,
+        low,
+        high,
         rule: at.rule,
     }
 }

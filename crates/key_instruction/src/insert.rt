@@ -1,13 +1,39 @@
-// ISK and ISKE: R1 with the key in it comes back; no key is written and the record stays as it is. Each is a function of its own, from the
-// lines of the table to the answer, for speed (docs/BENCHMARK.md).
+// ISK and ISKE: R1 with the key in it comes back; no key is written and the record stays as it is.
 ghost use Rattle.std.specs.Prelude.{◌≡◌, []};
 ghost use Rattle.machine.specs.Step.{outcome, step};
+ghost use Rattle.machine.specs.KeyInstructions.{operation};
 
-use crate::block::{block_2k, block_4k, found_at};
-use crate::checks::{basic_lines, extended_lines};
-use crate::operations;
-use machine::{Answer, KeyInstruction, Processor, Request, Settings};
-use table::answers::{answer_of, stops};
+use crate::block::block_of;
+use crate::checks::lines;
+use machine::{Answer, Completion, KeyInstruction, KeyOperation, Processor, Request, Settings};
+use storage_key::joined;
+use table::numbers::Sizes;
+
+// An instruction that inserts. The word is R1 with its bits 24-30 replaced by the key, and bit 31 zero. One key joined with itself is that
+// key.
+#[inline(always)]
+pub(crate) fn insert(
+    settings: Settings,
+    storage: &[u8],
+    keys: &[u8],
+    p: Processor,
+    instruction: KeyInstruction,
+    r1: u32,
+) -> Answer
+    requires { operation instruction ≡ KeyOperation.Insert r1 }
+    ensures { outcome result storage.now keys.now p []
+        ≡ step settings storage.now keys.now p (Request.Key instruction) [] }
+{
+    let sizes = Sizes::of(settings, storage, keys);
+    lines(sizes, p, instruction)?;
+    let block = block_of(sizes, p, instruction);
+    let key = joined(keys[block.low], keys[block.high]);
+    let word = r1 / 256 * 256 + key as u32;
+    Ok(Completion {
+        word,
+        rule: block.rule,
+    })
+}
 
 // ISK, on the key of the unit that holds a 2K block.
 pub fn isk(
@@ -21,25 +47,14 @@ pub fn isk(
     ensures { outcome result storage.now keys.now p []
         ≡ step settings storage.now keys.now p (Request.Key (KeyInstruction.Isk r1 r2)) [] }
 {
-    let block = block_2k(r2);
-    let found = basic_lines(
+    insert(
         settings,
-        storage.len(),
-        keys.len(),
+        storage,
+        keys,
         p,
-        block,
-        false,
-        !(r2 % 16 == 0),
-    );
-    if stops(found) {
-        return answer_of(found, 0, 0);
-    }
-    let at = found_at(settings, p, block);
-    let word = operations::insert(keys, at.unit, false, r1);
-    Answer::Completed {
-        word,
-        rule: at.rule,
-    }
+        KeyInstruction::Isk { r1, r2 },
+        r1,
+    )
 }
 
 // ISKE, on the two keys of a 4K block or, with the 4K facility, on its one key.
@@ -54,15 +69,12 @@ pub fn iske(
     ensures { outcome result storage.now keys.now p []
         ≡ step settings storage.now keys.now p (Request.Key (KeyInstruction.Iske r1 r2)) [] }
 {
-    let block = block_4k(r2);
-    let found = extended_lines(settings, storage.len(), keys.len(), p, block);
-    if stops(found) {
-        return answer_of(found, 0, 0);
-    }
-    let at = found_at(settings, p, block);
-    let word = operations::insert(keys, at.unit, !settings.four_k, r1);
-    Answer::Completed {
-        word,
-        rule: at.rule,
-    }
+    insert(
+        settings,
+        storage,
+        keys,
+        p,
+        KeyInstruction::Iske { r1, r2 },
+        r1,
+    )
 }

@@ -1,34 +1,26 @@
 // The six key instructions over a lent key array: as one function that takes any of them, and in `insert`, `set` and `reset` as a function
-// for each.
+// for each. The function for an instruction has its name and promises its step; the two that do the same share one function that does it.
+// A type parameter in place of the two names would be no plainer: its values would need names that the manual lacks. Nor would a struct in place of
+// settings, storage and keys: what is lent is written in part, and clauses would speak of what each field of the struct was lent from.
 #![tactic(auto)]
 
 ghost use Rattle.std.specs.Prelude.{◌≡◌, []};
 ghost use Rattle.machine.specs.Step.{outcome, step};
 
-use insert::{isk, iske};
-use machine::{Answer, KeyInstruction, Processor, Request, Served, Settings};
-use reset::{rrb, rrbe};
-use set::{ssk, sske};
+use crate::insert::{isk, iske};
+use crate::reset::reset;
+use crate::set::{ssk, sske};
+use machine::{KeyInstruction, Processor, Request, Served, Settings};
 
 mod block;
 mod checks;
 pub mod insert;
-mod operations;
+mod instruction;
 pub mod reset;
 pub mod set;
 
-// An answer with the record as it is.
-fn unchanged(answer: Answer, p: Processor) -> Served
-    ensures { result ≡ record { answer = answer; processor = p } }
-{
-    Served {
-        answer,
-        processor: p,
-    }
-}
-
 // A key instruction of a processor with the record p: the step with an empty buffer, since it takes none. Of storage it looks at the
-// length alone.
+// length alone. Each instruction has an arm of its own, in which the compiler sees which it is, for speed (docs/BENCHMARK.md).
 pub fn key_instruction(
     settings: Settings,
     storage: &[u8],
@@ -39,12 +31,14 @@ pub fn key_instruction(
     ensures { outcome result.answer storage.now keys.new result.processor []
         ≡ step settings storage.now keys.old p (Request.Key instruction) [] }
 {
-    match instruction {
-        KeyInstruction::Isk { r1, r2 } => unchanged(isk(settings, storage, keys, p, r1, r2), p),
-        KeyInstruction::Ssk { r1, r2 } => unchanged(ssk(settings, storage, keys, p, r1, r2), p),
-        KeyInstruction::Rrb { address } => rrb(settings, storage, keys, p, address),
-        KeyInstruction::Iske { r1, r2 } => unchanged(iske(settings, storage, keys, p, r1, r2), p),
-        KeyInstruction::Sske { r1, r2 } => unchanged(sske(settings, storage, keys, p, r1, r2), p),
-        KeyInstruction::Rrbe { r2 } => rrbe(settings, storage, keys, p, r2),
-    }
+    let mut processor = p;
+    let answer = match instruction {
+        KeyInstruction::Isk { r1, r2 } => isk(settings, storage, &keys[..], p, r1, r2),
+        KeyInstruction::Ssk { r1, r2 } => ssk(settings, storage, keys, p, r1, r2),
+        KeyInstruction::Rrb { .. } => reset(settings, storage, keys, &mut processor, instruction),
+        KeyInstruction::Iske { r1, r2 } => iske(settings, storage, &keys[..], p, r1, r2),
+        KeyInstruction::Sske { r1, r2 } => sske(settings, storage, keys, p, r1, r2),
+        KeyInstruction::Rrbe { .. } => reset(settings, storage, keys, &mut processor, instruction),
+    };
+    Served { answer, processor }
 }

@@ -1,25 +1,42 @@
-// RRB and RRBE: the reference bit is reset, and the condition code of the record is set from the key as it was. Each is a function of its own,
-// from the lines of the table to the answer, for speed (docs/BENCHMARK.md).
+// RRB and RRBE: the reference bit is reset, and the condition code of the record is set from the key as it was.
 ghost use Rattle.std.specs.Prelude.{◌≡◌, []};
-ghost use Rattle.machine.specs.Step.{outcome, step, with_code};
+ghost use Rattle.machine.specs.Step.{outcome, step};
+ghost use Rattle.machine.specs.KeyInstructions.{operation};
 
-use crate::block::{block_2k, block_4k, found_at};
-use crate::checks::{basic_lines, extended_lines};
-use crate::{operations, unchanged};
-use machine::{Answer, KeyInstruction, Processor, Request, Served, Settings};
-use table::answers::{answer_of, stops};
-use table::numbers::OPERAND_LIMIT;
+use crate::block::block_of;
+use crate::checks::lines;
+use machine::{
+    Answer, Completion, KeyInstruction, KeyOperation, Processor, Request, Served, Settings,
+};
+use storage_key::{after_reset, code_of, joined};
+use table::numbers::Sizes;
 
-// Completed with no word and this rule of prefixing, and with this condition code in the record.
-fn completed(p: Processor, code: u8, rule: u32) -> Served
-    ensures { result ≡ record { answer = Answer.Completed 0 rule; processor = with_code p code } }
+// An instruction that resets, of a processor whose record is lent. One key is written twice, with the same value, for speed
+// (docs/BENCHMARK.md).
+#[inline(always)]
+pub(crate) fn reset(
+    settings: Settings,
+    storage: &[u8],
+    keys: &mut [u8],
+    p: &mut Processor,
+    instruction: KeyInstruction,
+) -> Answer
+    requires { operation instruction ≡ KeyOperation.Reset }
+    ensures { outcome result storage.now keys.new p.new []
+        ≡ step settings storage.now keys.old p.old (Request.Key instruction) [] }
 {
-    let mut processor = p;
-    processor.code = code;
-    Served {
-        answer: Answer::Completed { word: 0, rule },
-        processor,
-    }
+    let sizes = Sizes::of(settings, storage, &keys[..]);
+    lines(sizes, *p, instruction)?;
+    let block = block_of(sizes, *p, instruction);
+    let low = keys[block.low];
+    let high = keys[block.high];
+    p.code = code_of(joined(low, high));
+    keys[block.low] = after_reset(low);
+    keys[block.high] = after_reset(high);
+    Ok(Completion {
+        word: 0,
+        rule: block.rule,
+    })
 }
 
 // RRB, on the key of the unit that holds a 2K block.
@@ -33,22 +50,10 @@ pub fn rrb(
     ensures { outcome result.answer storage.now keys.new result.processor []
         ≡ step settings storage.now keys.old p (Request.Key (KeyInstruction.Rrb address)) [] }
 {
-    let block = block_2k(address);
-    let found = basic_lines(
-        settings,
-        storage.len(),
-        keys.len(),
-        p,
-        block,
-        address >= OPERAND_LIMIT,
-        false,
-    );
-    if stops(found) {
-        return unchanged(answer_of(found, 0, 0), p);
-    }
-    let at = found_at(settings, p, block);
-    let code = operations::reset(keys, at.unit, false);
-    completed(p, code, at.rule)
+    let mut processor = p;
+    let instruction = KeyInstruction::Rrb { address };
+    let answer = reset(settings, storage, keys, &mut processor, instruction);
+    Served { answer, processor }
 }
 
 // RRBE, on the two keys of a 4K block or, with the 4K facility, on its one key.
@@ -56,12 +61,8 @@ pub fn rrbe(settings: Settings, storage: &[u8], keys: &mut [u8], p: Processor, r
     ensures { outcome result.answer storage.now keys.new result.processor []
         ≡ step settings storage.now keys.old p (Request.Key (KeyInstruction.Rrbe r2)) [] }
 {
-    let block = block_4k(r2);
-    let found = extended_lines(settings, storage.len(), keys.len(), p, block);
-    if stops(found) {
-        return unchanged(answer_of(found, 0, 0), p);
-    }
-    let at = found_at(settings, p, block);
-    let code = operations::reset(keys, at.unit, !settings.four_k);
-    completed(p, code, at.rule)
+    let mut processor = p;
+    let instruction = KeyInstruction::Rrbe { r2 };
+    let answer = reset(settings, storage, keys, &mut processor, instruction);
+    Served { answer, processor }
 }

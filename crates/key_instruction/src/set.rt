@@ -1,13 +1,39 @@
-// SSK and SSKE: the key is set from R1; the record stays as it is. Each is a function of its own, from the lines of the table to the answer,
-// for speed (docs/BENCHMARK.md).
+// SSK and SSKE: the key is set from R1; the record stays as it is.
 ghost use Rattle.std.specs.Prelude.{◌≡◌, []};
 ghost use Rattle.machine.specs.Step.{outcome, step};
+ghost use Rattle.machine.specs.KeyInstructions.{operation};
 
-use crate::block::{block_2k, block_4k, found_at};
-use crate::checks::{basic_lines, extended_lines};
-use crate::operations;
-use machine::{Answer, KeyInstruction, Processor, Request, Settings};
-use table::answers::{answer_of, stops};
+use crate::block::block_of;
+use crate::checks::lines;
+use machine::{Answer, Completion, KeyInstruction, KeyOperation, Processor, Request, Settings};
+use storage_key::key_in;
+use table::numbers::Sizes;
+
+// An instruction that sets. One key is written twice, with the same value.
+#[inline(always)]
+pub(crate) fn set(
+    settings: Settings,
+    storage: &[u8],
+    keys: &mut [u8],
+    p: Processor,
+    instruction: KeyInstruction,
+    r1: u32,
+) -> Answer
+    requires { operation instruction ≡ KeyOperation.Set r1 }
+    ensures { outcome result storage.now keys.new p []
+        ≡ step settings storage.now keys.old p (Request.Key instruction) [] }
+{
+    let sizes = Sizes::of(settings, storage, &keys[..]);
+    lines(sizes, p, instruction)?;
+    let block = block_of(sizes, p, instruction);
+    let key = key_in(r1);
+    keys[block.low] = key;
+    keys[block.high] = key;
+    Ok(Completion {
+        word: 0,
+        rule: block.rule,
+    })
+}
 
 // SSK, on the key of the unit that holds a 2K block.
 pub fn ssk(
@@ -21,25 +47,14 @@ pub fn ssk(
     ensures { outcome result storage.now keys.new p []
         ≡ step settings storage.now keys.old p (Request.Key (KeyInstruction.Ssk r1 r2)) [] }
 {
-    let block = block_2k(r2);
-    let found = basic_lines(
+    set(
         settings,
-        storage.len(),
-        keys.len(),
+        storage,
+        keys,
         p,
-        block,
-        false,
-        !(r2 % 16 == 0),
-    );
-    if stops(found) {
-        return answer_of(found, 0, 0);
-    }
-    let at = found_at(settings, p, block);
-    operations::set(keys, at.unit, false, r1);
-    Answer::Completed {
-        word: 0,
-        rule: at.rule,
-    }
+        KeyInstruction::Ssk { r1, r2 },
+        r1,
+    )
 }
 
 // SSKE, on the two keys of a 4K block or, with the 4K facility, on its one key.
@@ -54,15 +69,12 @@ pub fn sske(
     ensures { outcome result storage.now keys.new p []
         ≡ step settings storage.now keys.old p (Request.Key (KeyInstruction.Sske r1 r2)) [] }
 {
-    let block = block_4k(r2);
-    let found = extended_lines(settings, storage.len(), keys.len(), p, block);
-    if stops(found) {
-        return answer_of(found, 0, 0);
-    }
-    let at = found_at(settings, p, block);
-    operations::set(keys, at.unit, !settings.four_k, r1);
-    Answer::Completed {
-        word: 0,
-        rule: at.rule,
-    }
+    set(
+        settings,
+        storage,
+        keys,
+        p,
+        KeyInstruction::Sske { r1, r2 },
+        r1,
+    )
 }

@@ -13,9 +13,8 @@ use Rattle.machine.specs.declared.Processor.{Processor}
 use Rattle.machine.specs.declared.AccessKind.{AccessKind}
 use Rattle.machine.specs.declared.Request.{Request}
 use Rattle.machine.specs.declared.Request.TheVariants.{Access}
-use Rattle.machine.specs.declared.Verdict.TheVariants.{Clear}
+use Rattle.machine.specs.Answers.{Clear, first_line}
 use Rattle.machine.specs.Numbers.{operand_limit, unit_of, add24}
-use Rattle.machine.specs.Answers.{first_line}
 use Rattle.machine.specs.Prefixing.{byte_address}
 use Rattle.machine.specs.Table.{configuration, own_record, operand_invalid, addressing, before_protection, verdict}
 use Rattle.machine.proofs.Verdicts.{neither, line_clear, first_clear}

@@ -20,8 +20,8 @@ use Rattle.machine.specs.Key.{after_fetch, after_store}
 use Rattle.machine.specs.Answers.{Values}
 use Rattle.machine.specs.Protection.{permitted}
 use Rattle.machine.specs.Channel.{big_endian, ccw_at, operation_of, range_forbidden, range_recorded, bytes_moved, first_refusal, before_fetching}
-use Rattle.machine.specs.Channel.{transfer_allowed, program_check, advanced}
-use Rattle.machine.specs.Channel.{before_transfer, with_ccw_fetched, carried_out, obeyed, next_ccw, channel_step, steps, channel_run}
+use Rattle.machine.specs.Channel.{transfer_allowed, program_check, advanced, before_transfer, with_ccw_fetched, carried_out, obeyed, next_ccw}
+use Rattle.machine.specs.Channel.{channel_step, steps, channel_run}
 
 -- 4,096 bytes of storage: these first bytes, and zeros; key array, channel key, first CCW, grant; bytes from the device, room of so many sevens
 pub record Case : Type 0 where

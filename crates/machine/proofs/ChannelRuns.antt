@@ -14,18 +14,14 @@ use Rattle.machine.specs.declared.Settings.{Settings}
 use Rattle.machine.specs.declared.AccessKind.TheVariants.{Fetch, Store}
 use Rattle.machine.specs.declared.channel.ChannelRequest.{ChannelRequest}
 use Rattle.machine.specs.declared.channel.ChannelReason.{ChannelReason}
-use Rattle.machine.specs.declared.channel.ChannelAnswer.{ChannelAnswer}
+use Rattle.machine.specs.Channel.{ChannelAnswer, Standing, UnderWay, Answered, Channel, refused, operation_of, ccw_at, first_refusal, before_fetching}
+use Rattle.machine.specs.Channel.{fetching_forbidden, transfer_allowed, before_transfer, data_forbidden, with_ccw_fetched, carried_out}
+use Rattle.machine.specs.Channel.{unless_refused, unless_forbidden, obeyed, next_ccw, step_by, channel_step, steps, unrefused, fetches_by}
+use Rattle.machine.specs.Channel.{fetches_ccw, steps_that_fetch, channel, channel_values, begun, answer_in, channel_run}
 use Rattle.machine.specs.declared.channel.ChannelOperation.{ChannelOperation}
 use Rattle.machine.specs.declared.channel.ChannelOperation.TheVariants.{TransferInChannel, Data, Invalid}
 use Rattle.machine.specs.declared.channel.Chaining.TheVariants.{Command, Transfer, Ended}
-use Rattle.machine.specs.declared.channel.Standing.{Standing}
-use Rattle.machine.specs.declared.channel.Standing.TheVariants.{UnderWay, Answered}
 use Rattle.machine.specs.Answers.{Values}
-use Rattle.machine.specs.Channel.{Channel, refused, operation_of, ccw_at, first_refusal, before_fetching}
-use Rattle.machine.specs.Channel.{fetching_forbidden, transfer_allowed, before_transfer, data_forbidden, with_ccw_fetched, carried_out}
-use Rattle.machine.specs.Channel.{unless_refused, unless_forbidden}
-use Rattle.machine.specs.Channel.{obeyed, next_ccw, step_by, channel_step, steps, unrefused, fetches_by, fetches_ccw, steps_that_fetch}
-use Rattle.machine.specs.Channel.{channel, channel_values, begun, answer_in, channel_run}
 use Rattle.machine.proofs.Verdicts.{not_both}
 use Rattle.machine.proofs.ChannelSteps.{operation_found, CcwOutcome, unfetched, unread, unobeyed, untransferred, obeyed_whole, ccw_outcome}
 use Rattle.machine.proofs.ChannelSteps.{no_line, fetchable, step_under_way, step_answered}

@@ -19,14 +19,12 @@ use Rattle.machine.specs.declared.channel.ChannelOperation.{ChannelOperation}
 use Rattle.machine.specs.declared.channel.ChannelOperation.TheVariants.{TransferInChannel, Data, Invalid}
 use Rattle.machine.specs.declared.channel.ChannelReason.{ChannelReason}
 use Rattle.machine.specs.declared.channel.ChannelReason.TheVariants.{GrantUsed, Program, Protection, Device}
-use Rattle.machine.specs.declared.channel.ChannelAnswer.TheVariants.{Refused}
-use Rattle.machine.specs.declared.channel.Standing.TheVariants.{Answered}
+use Rattle.machine.specs.Channel.{Refused, Answered, big_endian, ccw_at, outside, range_forbidden, range_recorded, bytes_moved, Channel}
+use Rattle.machine.specs.Channel.{first_refusal, request_lines, address_lines, before_fetching, fetching_forbidden, program_check, data_outside}
+use Rattle.machine.specs.Channel.{device_short, data_forbidden, before_transfer, with_ccw_fetched, carried_out, next_ccw}
 use Rattle.machine.specs.Numbers.{unit_of}
 use Rattle.machine.specs.Key.{after_fetch}
 use Rattle.machine.specs.Protection.{permitted, recorded}
-use Rattle.machine.specs.Channel.{big_endian, ccw_at, outside, range_forbidden, range_recorded, bytes_moved, Channel}
-use Rattle.machine.specs.Channel.{first_refusal, request_lines, address_lines, before_fetching, fetching_forbidden, program_check, data_outside, device_short}
-use Rattle.machine.specs.Channel.{data_forbidden, before_transfer, with_ccw_fetched, carried_out, next_ccw}
 use Rattle.machine.proofs.Written.{written_elsewhere, written_there, marked_either}
 use Rattle.machine.proofs.Verdicts.{any_at, any_found, any_same}
 use Rattle.machine.proofs.Tests.{Tells}

@@ -17,15 +17,11 @@ use Rattle.machine.specs.declared.channel.ChannelOperation.{ChannelOperation}
 use Rattle.machine.specs.declared.channel.ChannelOperation.TheVariants.{TransferInChannel, Data, Invalid}
 use Rattle.machine.specs.declared.channel.ChannelReason.{ChannelReason}
 use Rattle.machine.specs.declared.channel.ChannelReason.TheVariants.{Configuration, ChannelKey, Grant, GrantUsed, Program, Protection, Device}
-use Rattle.machine.specs.declared.channel.Standing.{Standing}
-use Rattle.machine.specs.declared.channel.Standing.TheVariants.{UnderWay, Answered}
-use Rattle.machine.specs.declared.channel.ChannelAnswer.{ChannelAnswer}
-use Rattle.machine.specs.declared.channel.ChannelAnswer.TheVariants.{Completed, Refused}
+use Rattle.machine.specs.Channel.{Standing, UnderWay, Answered, ChannelAnswer, Completed, Refused, ccw_at, operation_of, outside, range_recorded}
+use Rattle.machine.specs.Channel.{bytes_moved, Channel, refused, first_refusal, before_fetching, fetching_forbidden, data_forbidden, before_transfer}
+use Rattle.machine.specs.Channel.{with_ccw_fetched, carried_out, obeyed, next_ccw, step_by, channel_step, channel_number_of}
 use Rattle.machine.specs.Numbers.{lengths_valid, unit_of}
 use Rattle.machine.specs.Key.{after_fetch}
-use Rattle.machine.specs.Channel.{ccw_at, operation_of, outside, range_recorded, bytes_moved, Channel, refused, first_refusal, before_fetching}
-use Rattle.machine.specs.Channel.{fetching_forbidden, data_forbidden, before_transfer, with_ccw_fetched, carried_out, obeyed, next_ccw, step_by, channel_step}
-use Rattle.machine.specs.Channel.{channel_number_of}
 use Rattle.machine.specs.Conditions.{is_in, channel_numbers, with_key_fetched, CcwRefused, ChannelCondition1}
 use Rattle.machine.proofs.Verdicts.{neither}
 use Rattle.machine.proofs.Written.{length-written, written_once}

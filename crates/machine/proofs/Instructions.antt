@@ -21,7 +21,7 @@ use Rattle.machine.specs.declared.KeyOperation.{KeyOperation}
 use Rattle.machine.specs.declared.KeyOperation.TheVariants.{Insert, Set, Reset}
 use Rattle.machine.specs.declared.Request.{Request}
 use Rattle.machine.specs.declared.Request.TheVariants.{Key}
-use Rattle.machine.specs.declared.Answer.TheVariants.{Completed}
+use Rattle.machine.specs.Answers.{Completed}
 use Rattle.machine.specs.Lists.{written}
 use Rattle.machine.specs.Key.{access_control, fetch_protection, reference, change, key_of, after_reset, code_of, joined}
 use Rattle.machine.specs.Prefixing.{absolute}

@@ -2,6 +2,7 @@
 -- condition code of 0 to 3. The proof goes by the verdict and the kind of request. A request by a record that line 65 refuses is refused
 -- as one that has no record.
 -- Assumes nothing.
+use Rattle.std.specs.Prelude.{Err}
 use Prim.Native.Nat.{ℕ, ◌≤◌}
 use mathlib.Core.Path.{◌≡◌, refl}
 use mathlib.Core.Bool.{Bool, true, false}
@@ -17,10 +18,8 @@ use Rattle.machine.specs.declared.PrefixInstruction.TheVariants.{SetPrefix, Stor
 use Rattle.machine.specs.declared.Request.{Request}
 use Rattle.machine.specs.declared.Request.TheVariants.{Access, Key, Prefix}
 use Rattle.machine.specs.declared.Reason.TheVariants.{Record}
-use Rattle.machine.specs.declared.Verdict.{Verdict}
-use Rattle.machine.specs.declared.Verdict.TheVariants.{Clear, Stop}
+use Rattle.machine.specs.Answers.{Verdict, Clear, Stop, stops, line, first_of, first_line, answer_of}
 use Rattle.machine.specs.Numbers.{record_valid}
-use Rattle.machine.specs.Answers.{stops, line, first_of, first_line, answer_of}
 use Rattle.machine.specs.Key.{code_of}
 use Rattle.machine.specs.Prefixing.{prefix_of}
 use Rattle.machine.specs.KeyInstructions.{operation, two_keys, first_unit, code_left}
@@ -41,12 +40,12 @@ wrong_record_found s storage_length keys p r buffer_length wrong =
   where
     absorbed : (v u : Verdict) → first_of v (Stop Record 0) ≡ first_of (first_of v (Stop Record 0)) u
     absorbed Clear u = refl
-    absorbed (Stop reason place) u = refl
+    absorbed (Err refusal) u = refl
 
 stops_without_record : (v : Verdict) → stops (first_of v (Stop Record 0)) ≡ true
 unfolding first_of
 stops_without_record Clear = refl
-stops_without_record (Stop reason place) = refl
+stops_without_record (Err refusal) = refl
 
 pub wrong_record : (s : Settings) (storage keys : List ℕ) (p : Processor) (r : Request) (buffer : List ℕ) → record_valid (length storage) p ≡ false
     → outcome (answer_of (without_record s (length storage) (length keys)) 0 0) storage keys p buffer ≡ step s storage keys p r buffer

@@ -16,10 +16,9 @@ use Rattle.machine.specs.declared.Settings.{Settings}
 use Rattle.machine.specs.declared.Processor.{Processor}
 use Rattle.machine.specs.declared.Request.{Request}
 use Rattle.machine.specs.declared.Reason.TheVariants.{Configuration, Record}
-use Rattle.machine.specs.declared.Verdict.TheVariants.{Stop}
+use Rattle.machine.specs.Answers.{Stop, Values, values, answer_of, line, first_of}
 use Rattle.machine.specs.Lists.{record_of}
 use Rattle.machine.specs.Numbers.{lengths_valid}
-use Rattle.machine.specs.Answers.{Values, values, answer_of, line, first_of}
 use Rattle.machine.specs.Step.{step}
 use Rattle.machine.specs.Pair.{PairOutcome, put_back, without_record, served, pair_step}
 use Rattle.machine.proofs.Requests.{refused_changes_nothing}

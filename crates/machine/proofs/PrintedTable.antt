@@ -2,6 +2,7 @@
 -- same verdict for every input: where lines 64 and 65 pass, no absolute address is outside storage, and the line for 67 passes. It is said of a
 -- processor's own record; a number without one is refused with 64 or 65, and comes to no later line.
 -- Assumes nothing.
+use Rattle.std.specs.Prelude.{Err}
 use Prim.Native.Nat.{ℕ, zero, suc}
 use mathlib.Core.Path.{◌≡◌, refl}
 use mathlib.Core.Bool.{Bool, true, false, cond, ◌&&◌}
@@ -15,10 +16,8 @@ use Rattle.machine.specs.declared.AccessKind.TheVariants.{Fetch}
 use Rattle.machine.specs.declared.KeyInstruction.TheVariants.{Isk, Iske}
 use Rattle.machine.specs.declared.Request.{Request}
 use Rattle.machine.specs.declared.Request.TheVariants.{Access, Key, Prefix}
-use Rattle.machine.specs.declared.Verdict.{Verdict}
-use Rattle.machine.specs.declared.Verdict.TheVariants.{Clear, Stop}
+use Rattle.machine.specs.Answers.{Verdict, Clear, number, first_of}
 use Rattle.machine.specs.Numbers.{add24}
-use Rattle.machine.specs.Answers.{number, first_of}
 use Rattle.machine.specs.Prefixing.{prefixed, absolute}
 use Rattle.machine.specs.KeyInstructions.{designated}
 use Rattle.machine.specs.Table.{configuration, own_record, protection, before_protection, verdict}
@@ -34,7 +33,7 @@ pub data Said : Type 0 where
 -- what a verdict of the rules says; a reason is told by its number
 abbrev pub said : Verdict → Said
 said Clear = passes
-said (Stop r place) = refuses (number r) place
+said (Err refusal) = refuses (number refusal.reason) refusal.place
 
 -- the first, and where it passes the second
 abbrev pub or_else : Said → Said → Said
@@ -89,7 +88,7 @@ printed_table_same s storage_length keys p r buffer_length = go (before_protecti
   where
     go : (v : Verdict) → before_protection s storage_length (length keys) p r buffer_length ≡ v
         → or_else (said v) (or_else (line67 storage_length p r) (said (protection s keys p r))) ≡ said (first_of v (protection s keys p r))
-    go (Stop q k) e = refl
+    go (Err refusal) e = refl
     go Clear e =
         let lines = cleared s storage_length (length keys) p r buffer_length e in
         rw (line_67_passes s storage_length (length keys) p lines.lengths lines.own r)

@@ -2,6 +2,7 @@
 -- it completes exactly when no line applies; then the place of each refusal, and which words are 0. The rules' table is the table of the lines of
 -- `lines_of`, each of which is sound, and the laws of tables give the rest.
 -- Assumes nothing.
+use Rattle.std.specs.Prelude.{Err}
 use Prim.Native.Nat.{ℕ, ◌≤◌}
 use mathlib.Core.Path.{◌≡◌, refl, sym, ap, subst, ◌∙◌}
 use mathlib.Core.Bool.{Bool, true, false}
@@ -18,9 +19,7 @@ use Rattle.machine.specs.declared.Request.TheVariants.{Access, Key, Prefix}
 use Rattle.machine.specs.declared.Reason.{Reason}
 use Rattle.machine.specs.declared.Reason.TheVariants.{Configuration, Record, Operand, Operation, Privileged, SpecialOperation}
 use Rattle.machine.specs.declared.Reason.TheVariants.{Specification, Addressing, Protection}
-use Rattle.machine.specs.declared.Verdict.{Verdict}
-use Rattle.machine.specs.declared.Verdict.TheVariants.{Clear, Stop}
-use Rattle.machine.specs.Answers.{Values, number, line, first_of}
+use Rattle.machine.specs.Answers.{Verdict, Clear, Stop, Values, number, line, first_of}
 use Rattle.machine.specs.Table.{configuration, own_record, operand_invalid, operation_exception, privileged_exception}
 use Rattle.machine.specs.Table.{special_operation_exception, specification_exception, addressing, protection, before_protection, verdict}
 use Rattle.machine.specs.Step.{completed, step}
@@ -164,7 +163,7 @@ module _ (s : Settings) (storage keys : List ℕ) (p : Processor) (kind : Access
 -- Every other place is 0. A verdict with a number of which E holds has the place 0
 abbrev Starts : (ℕ → Type 0) → Verdict → Type 0
 Starts E Clear = Unit {0}
-Starts E (Stop r k) = E (number r) → k ≡ 0
+Starts E (Err refusal) = E (number refusal.reason) → refusal.place ≡ 0
 
 line_starts : (E : ℕ → Type 0) (r : Reason) (b : Bool) → Starts E (line r b)
 unfolding line
@@ -176,7 +175,7 @@ other_starts E {l = l} sound other = go l.verdict sound.own
   where
     go : (v : Verdict) → Only l.number v → Starts E v
     go Clear own = tt
-    go (Stop r k) own = λ e. absurd (other (subst E own e))
+    go (Err refusal) own = λ e. absurd (other (subst E own e))
 
 abbrev AllStart : (ℕ → Type 0) → List Line → Type 0
 AllStart E [] = Unit {0}
@@ -189,7 +188,7 @@ table_starts E (l ∷ ls) all = go l.verdict all.0 (table_starts E ls all.1)
   where
     go : (v : Verdict) → Starts E v → Starts E (table_of ls) → Starts E (first_of v (table_of ls))
     go Clear here rest = rest
-    go (Stop r k) here rest = here
+    go (Err refusal) here rest = here
 
 -- the number of a line that does not go by bytes
 abbrev NotByBytes : ℕ → Type 0

@@ -2,6 +2,7 @@
 -- that it leaves. They show each instruction at both facilities, with prefixes and with keys that differ in their reference and change bits, and both
 -- sides of the bounds of each line of the table. Storage and buffer may hold anything: a row gives their lengths.
 -- Assumes nothing.
+use Rattle.std.specs.Prelude.{Err}
 use Prim.Native.Nat.{ℕ}
 use mathlib.Core.Path.{◌≡◌, refl, ◌∙◌}
 use mathlib.Core.Bool.{Bool, true, false}
@@ -14,11 +15,9 @@ use Rattle.machine.specs.declared.Request.TheVariants.{Access, Key, Prefix}
 use Rattle.machine.specs.declared.AccessKind.TheVariants.{Fetch, Store}
 use Rattle.machine.specs.declared.KeyInstruction.TheVariants.{Isk, Ssk, Rrb, Iske, Sske, Rrbe}
 use Rattle.machine.specs.declared.PrefixInstruction.TheVariants.{SetPrefix, StorePrefix}
-use Rattle.machine.specs.declared.Verdict.{Verdict}
-use Rattle.machine.specs.declared.Verdict.TheVariants.{Clear, Stop}
+use Rattle.machine.specs.Answers.{Verdict, Clear, Values, line, first_of, first_byte, first_line}
 use Rattle.machine.specs.Lists.{written}
 use Rattle.machine.specs.Key.{key_of, after_fetch, after_store, after_reset, code_of, joined}
-use Rattle.machine.specs.Answers.{Values, line, first_of, first_byte, first_line}
 use Rattle.machine.specs.Prefixing.{prefixed}
 use Rattle.machine.specs.Protection.{permitted, low_protected}
 use Rattle.machine.specs.KeyInstructions.{word_given, keys_left, code_left}
@@ -280,7 +279,7 @@ unfolding step performed completed
 lengths_suffice m p r buffer_length storage buffer h k = rw (h, k) (go (verdict m.settings m.storage_length m.keys p r buffer_length) r)
   where
     go : (v : Verdict) (r : Request) → seen (performed v m.settings storage m.keys p r buffer) ≡ seen (performed v m.settings [] m.keys p r [])
-    go (Stop reason place) r = refl
+    go (Err refusal) r = refl
     go Clear (Access kind address count) = refl
     go Clear (Key i) = refl
     go Clear (Prefix i) = refl

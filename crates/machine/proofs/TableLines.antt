@@ -1,15 +1,14 @@
 -- A table of lines, each with its number, its verdict and the sentence that says when it applies. The table gives the number of a line exactly
 -- when no earlier line applies and this one does: `line_answers`. The proofs go by the lines from the top.
 -- Assumes nothing.
+use Rattle.std.specs.Prelude.{Err}
 use Prim.Native.Nat.{ℕ, ◌<◌}
 use mathlib.Core.Path.{◌≡◌, refl, sym, ap, ◌∙◌}
 use mathlib.Core.Bool.{Bool, true, false}
 use mathlib.Core.Logic.{◌≢◌, ◌↔◌}
 use mathlib.Core.List.{List, [], ◌∷◌, ◌++◌, map}
 use Rattle.machine.specs.declared.Reason.{Reason}
-use Rattle.machine.specs.declared.Verdict.{Verdict}
-use Rattle.machine.specs.declared.Verdict.TheVariants.{Clear, Stop}
-use Rattle.machine.specs.Answers.{number, stops, line, first_of, first_byte, first_line}
+use Rattle.machine.specs.Answers.{Verdict, Clear, Stop, number, stops, line, first_of, first_byte, first_line}
 use Rattle.machine.proofs.Tests.{Tells}
 use Rattle.machine.proofs.Verdicts.{not_both, first_none, first_assoc, bytes_stopped, bytes_clear}
 
@@ -26,12 +25,12 @@ NoneOf (l ∷ ls) = (¬ l.Applies) × NoneOf ls
 -- the number that a verdict gives
 abbrev pub shown : Verdict → ℕ
 shown Clear = 0
-shown (Stop r p) = number r
+shown (Err refusal) = number refusal.reason
 
 -- a verdict refuses with no number but n
 abbrev pub Only : ℕ → Verdict → Type 0
 Only n Clear = Unit {0}
-Only n (Stop r p) = number r ≡ n
+Only n (Err refusal) = number refusal.reason ≡ n
 
 -- a line refuses with its number only, and exactly when its sentence holds
 pub record Sound (l : Line) : Type 0 where
@@ -59,7 +58,7 @@ passed l sound n other w = go l.verdict sound.own sound.when
   where
     go : (v : Verdict) → Only l.number v → (stops v ≡ true) ↔ l.Applies → (shown (first_of v w) ≡ n) ↔ ((¬ l.Applies) × (shown w ≡ n))
     go Clear own when = (λ e. (λ a. not_both (when.1 a) refl, e), λ h. h.1)
-    go (Stop r p) own when = (λ e. absurd (other (sym own ∙ e)), λ h. absurd (h.0 (when.0 refl)))
+    go (Err refusal) own when = (λ e. absurd (other (sym own ∙ e)), λ h. absurd (h.0 (when.0 refl)))
 
 -- a table gives 0 exactly when no line applies
 pub table_clears : (ls : List Line) → AllSound ls → NumberedOther 0 ls → (shown (table_of ls) ≡ 0) ↔ NoneOf ls
@@ -90,7 +89,7 @@ line_answers [] l later sounds before after nonzero =
     go : (v : Verdict) → Only l.number v → (stops v ≡ true) ↔ l.Applies → (u : Verdict) → shown u ≢ l.number
         → (shown (first_of v u) ≡ l.number) ↔ (Unit {0} × l.Applies)
     go Clear own when u h = (λ e. absurd (h e), λ a. absurd (not_both (when.1 a.1) refl))
-    go (Stop r p) own when u h = (λ e. (tt, when.0 refl), λ a. own)
+    go (Err refusal) own when u h = (λ e. (tt, when.0 refl), λ a. own)
 
 -- and where it does, it refuses with the reason and the place of that line
 pub line_places : (earlier : List Line) (l : Line) (later : List Line) → AllSound (earlier ++ (l ∷ later))
@@ -103,12 +102,12 @@ line_places (m ∷ earlier) l later sounds before after nonzero r k e q =
     go : (v : Verdict) → Only m.number v → (table_of (earlier ++ (l ∷ later)) ≡ Stop r k → l.verdict ≡ Stop r k)
         → first_of v (table_of (earlier ++ (l ∷ later))) ≡ Stop r k → l.verdict ≡ Stop r k
     go Clear own rest e = rest e
-    go (Stop x j) own rest e = absurd (before.0 (sym own ∙ ap shown e ∙ q))
+    go (Err refusal) own rest e = absurd (before.0 (sym own ∙ ap shown e ∙ q))
 line_places [] l later sounds before after nonzero r k e q = go l.verdict e
   where
     go : (v : Verdict) → first_of v (table_of later) ≡ Stop r k → v ≡ Stop r k
     go Clear e = absurd (other_numbers l.number later sounds.1 after nonzero (ap shown e ∙ q))
-    go (Stop x j) e = e
+    go (Err refusal) e = e
 
 -- Lines of a table.
 
@@ -128,11 +127,13 @@ bytes_sound {P = P} r test n tells = record { own = own (first_byte r test n) re
   where
     own : (v : Verdict) → first_byte r test n ≡ v → Only (number r) v
     own Clear e = tt
-    own (Stop q k) e = ap number (bytes_stopped r test n q k e).0
+    own (Err refusal) e = ap number (bytes_stopped r test n refusal.reason refusal.place e).0
 
     when : (v : Verdict) → first_byte r test n ≡ v → (stops v ≡ true) ↔ ((i : ℕ) × (i < n) × P i)
     when Clear e = (λ h. absurd (not_both h refl), λ h. absurd (not_both ((tells h.0).1 h.2) (bytes_clear r test n e h.0 h.1)))
-    when (Stop q k) e = let (x, (l, y, z)) = bytes_stopped r test n q k e in (λ h. (k, l, (tells k).0 y), λ h. refl)
+    when (Err refusal) e =
+        let (x, (l, y, z)) = bytes_stopped r test n refusal.reason refusal.place e in
+        (λ h. (refusal.place, l, (tells refusal.place).0 y), λ h. refl)
 
 -- byte k is the first of n bytes of which P holds
 abbrev pub FirstSuch : (ℕ → Type 0) → ℕ → ℕ → Type 0

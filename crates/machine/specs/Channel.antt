@@ -2,7 +2,8 @@
 -- it leaves, and the run of a request. Addresses are absolute. No prefix is applied, there is no low-address protection, and no processor's
 -- record is looked at.
 use Rattle.std.specs.Prelude.{ℕ, zero, suc, ◌+◌, ◌-◌, ◌*◌, ◌^◌, ◌%◌, eqb, leb, ltb, Bool, true, false, cond, not, ◌&&◌, ◌||◌}
-use Rattle.std.specs.Prelude.{List, [], ◌∷◌, ◌++◌, length, get_or}
+use Rattle.std.specs.Prelude.{List, [], ◌∷◌, ◌++◌, length, get_or, Result, Ok, Err, Some, None, ⊤}
+use Rattle.std.specs.Prelude.{Option as Optional}
 use Rattle.std.proofs.Math.Option.{Option, none, some}
 use Rattle.machine.specs.declared.Settings.{Settings}
 use Rattle.machine.specs.declared.AccessKind.{AccessKind}
@@ -16,10 +17,6 @@ use Rattle.machine.specs.declared.channel.Chaining.TheVariants.{First, Command, 
 use Rattle.machine.specs.declared.channel.ChannelRecord.{ChannelRecord}
 use Rattle.machine.specs.declared.channel.ChannelReason.{ChannelReason}
 use Rattle.machine.specs.declared.channel.ChannelReason.TheVariants.{Configuration, ChannelKey, Grant, GrantUsed, Program, Protection, Device}
-use Rattle.machine.specs.declared.channel.ChannelAnswer.{ChannelAnswer}
-use Rattle.machine.specs.declared.channel.ChannelAnswer.TheVariants.{Completed, Refused}
-use Rattle.machine.specs.declared.channel.Standing.{Standing}
-use Rattle.machine.specs.declared.channel.Standing.TheVariants.{UnderWay, Answered}
 use Rattle.machine.specs.declared.channel.ChannelProgress.{ChannelProgress}
 use Rattle.machine.specs.declared.channel.ChannelReply.{ChannelReply}
 use Rattle.machine.specs.Bits.{field}
@@ -97,6 +94,26 @@ channel_number GrantUsed = 74
 channel_number Program = 71
 channel_number Protection = 72
 channel_number Device = 73
+
+-- the answer: the program ended, or it was refused
+abbrev pub ChannelAnswer : Type 0
+ChannelAnswer = Result ⊤ ChannelReason
+
+pattern abbrev pub Completed : ChannelAnswer
+Completed = Ok _
+
+pattern abbrev pub Refused : ChannelReason → ChannelAnswer
+Refused reason = Err reason
+
+-- whether a request has answered
+abbrev pub Standing : Type 0
+Standing = Optional ChannelAnswer
+
+pattern abbrev pub UnderWay : Standing
+UnderWay = None
+
+pattern abbrev pub Answered : ChannelAnswer → Standing
+Answered answer = Some answer
 
 -- a program that ends answers 0
 abbrev pub channel_number_of : ChannelAnswer → ℕ

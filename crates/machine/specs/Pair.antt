@@ -4,12 +4,9 @@ use Rattle.std.proofs.Math.Option.{Option, none, some}
 use Rattle.machine.specs.declared.Settings.{Settings}
 use Rattle.machine.specs.declared.Processor.{Processor}
 use Rattle.machine.specs.declared.Request.{Request}
-use Rattle.machine.specs.declared.Answer.{Answer}
+use Rattle.machine.specs.Answers.{Answer, Verdict, Stop, Values, values, answer_of, first_of}
 use Rattle.machine.specs.declared.Reason.TheVariants.{Record}
-use Rattle.machine.specs.declared.Verdict.{Verdict}
-use Rattle.machine.specs.declared.Verdict.TheVariants.{Stop}
 use Rattle.machine.specs.Lists.{record_of}
-use Rattle.machine.specs.Answers.{Values, values, answer_of, first_of}
 use Rattle.machine.specs.Table.{configuration}
 use Rattle.machine.specs.Step.{Outcome, step}
 

@@ -1,8 +1,11 @@
 // The channel: a request of its list, a CCW, the channel's record, and what comes back. All by value.
+ghost use Rattle.std.specs.Prelude.{◌≡◌, ◌<◌};
+ghost use Rattle.machine.specs.Channel.{channel_number};
+
 use crate::AccessKind;
 
 // A request: the channel's key, the address of the first CCW, and how many CCWs are granted. Each is any number.
-#[derive(Clone, Copy)]
+#[derive(Clone, Copy, Debug, PartialEq, Eq)]
 pub struct ChannelRequest {
     pub key: u32,
     pub first: u32,
@@ -10,7 +13,7 @@ pub struct ChannelRequest {
 }
 
 // A channel command word, without the byte that is ignored.
-#[derive(Clone, Copy)]
+#[derive(Clone, Copy, Debug, PartialEq, Eq)]
 pub struct Ccw {
     pub command: u8,
     pub address: u32,
@@ -19,7 +22,7 @@ pub struct Ccw {
 }
 
 // What a CCW asks for.
-#[derive(Clone, Copy)]
+#[derive(Clone, Copy, Debug, PartialEq, Eq)]
 pub enum ChannelOperation {
     // A transfer in channel, to the CCW at this address.
     TransferInChannel {
@@ -37,7 +40,7 @@ pub enum ChannelOperation {
 }
 
 // How control comes to the CCW to come.
-#[derive(Clone, Copy)]
+#[derive(Clone, Copy, Debug, PartialEq, Eq)]
 pub enum Chaining {
     // It is the first.
     First,
@@ -50,7 +53,7 @@ pub enum Chaining {
 }
 
 // The channel's record.
-#[derive(Clone, Copy)]
+#[derive(Clone, Copy, Debug, PartialEq, Eq)]
 pub struct ChannelRecord {
     // The address of the CCW to come; after the last, that behind it; where one is refused, its own.
     pub ccw: u32,
@@ -61,7 +64,7 @@ pub struct ChannelRecord {
 }
 
 // Why a request ends with a number other than 0.
-#[derive(Clone, Copy)]
+#[derive(Clone, Copy, Debug, PartialEq, Eq)]
 pub enum ChannelReason {
     // 64
     Configuration,
@@ -79,30 +82,38 @@ pub enum ChannelReason {
     Device,
 }
 
+impl From<ChannelReason> for u32 {
+    ghost from_gives = { λ reason n. n ≡ channel_number reason };
+
+    // The number of the channel's table.
+    fn from(reason: ChannelReason) -> u32
+        ensures { (result ≡ channel_number reason) × (result < 256) }
+    {
+        match reason {
+            ChannelReason::Configuration => 64,
+            ChannelReason::ChannelKey => 65,
+            ChannelReason::Grant => 66,
+            ChannelReason::GrantUsed => 74,
+            ChannelReason::Program => 71,
+            ChannelReason::Protection => 72,
+            ChannelReason::Device => 73,
+        }
+    }
+}
+
 // The answer: the program ended, or it was refused.
-#[derive(Clone, Copy)]
-pub enum ChannelAnswer {
-    Completed,
-    Refused { reason: ChannelReason },
-}
+pub type ChannelAnswer = Result<(), ChannelReason>;
 
-// Whether a request has answered.
-#[derive(Clone, Copy)]
-pub enum Standing {
-    UnderWay,
-    Answered { answer: ChannelAnswer },
-}
-
-// How far a request has come: the channel's record, how many CCWs were fetched, and the answer if there is one.
-#[derive(Clone, Copy)]
+// How far a request has come: the channel's record, how many CCWs were fetched, and the answer; while there is none, it is under way.
+#[derive(Clone, Copy, Debug, PartialEq, Eq)]
 pub struct ChannelProgress {
     pub state: ChannelRecord,
     pub fetched: u32,
-    pub standing: Standing,
+    pub standing: Option<ChannelAnswer>,
 }
 
 // What a whole request gives: the answer, how many CCWs were fetched, and the channel's record.
-#[derive(Clone, Copy)]
+#[derive(Clone, Copy, Debug, PartialEq, Eq)]
 pub struct ChannelReply {
     pub answer: ChannelAnswer,
     pub count: u32,

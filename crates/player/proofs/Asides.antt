@@ -7,8 +7,10 @@ use lib.ListN.{length}
 use Rattle.machine.specs.declared.Settings.{Settings}
 use Rattle.machine.specs.declared.Request.{Request}
 use Rattle.machine.proofs.Verdicts.{not_both}
-use Rattle.trace.specs.declared.Read.{Read}
-use Rattle.trace.specs.declared.Read.TheVariants.{Request as ARequest, Remark, Bad, End}
+use Rattle.std.specs.Prelude.{Ok}
+use Rattle.trace.specs.declared.Item.{Item}
+use Rattle.trace.specs.declared.Item.TheVariants as item
+use Rattle.trace.specs.Trace.{size_of, Read, ARequest, Remark, Bad, End}
 use Rattle.player.specs.declared.Player.{Player}
 use Rattle.player.specs.declared.Played.{Played}
 use Rattle.player.specs.declared.Status.TheVariants.{Passed, Ended, More}
@@ -21,9 +23,6 @@ no_request (ARequest n r size) h = absurd (h n r size refl)
 no_request (Remark size) h = refl
 no_request Bad h = refl
 no_request End h = refl
-
-pub request_told : (found : Read) (n : ℕ) (r : Request) (size : ℕ) → is_request found ≡ false → found ≡ ARequest n r size → ⊥
-request_told found n r size h e = not_both (ap (λ (x : Read). is_request x) e) h
 
 module _ (p : Player) (bytes : List ℕ) (last : Bool) (output : List ℕ) where
   pub bad_decided : (p' : Player) (written : ℕ) (output' : List ℕ) → (last || judged bytes) ≡ true
@@ -50,14 +49,15 @@ module _ (p : Player) (bytes : List ℕ) (last : Bool) (output : List ℕ) where
   unfolding bad_played
   bad_undecided r d stopped storage keys = rw d (stopped storage keys output)
 
-  pub remark_left : (found : Read) (size : ℕ) (p' : Player) → found ≡ Remark size
+  pub remark_left : (found : Read) (x : Item) (size : ℕ) (p' : Player) → is_request found ≡ false → found ≡ Ok x → size ≡ size_of x
       → ((storage keys : List ℕ) → progress_of p' storage keys ≡ after_other (progress_of p storage keys))
       → (s : Settings) (storage keys : List ℕ)
       → play_outcome (record { player = p'; read = size; written = 0; status = Passed }) storage keys output
       ≡ play_outcome_of (read_played found s last (progress_of p storage keys) bytes) output
   unfolding read_played over
-  remark_left found size p' f counted s storage keys =
-      rw f
+  remark_left found (item.Request n r size) size' p' told f e counted s storage keys = absurd (not_both (ap (λ (x : Read). is_request x) f) told)
+  remark_left found (item.Remark size) size' p' told f e counted s storage keys =
+      rw (f, e)
       (ap (λ (q : Progress). record { progress = q; read = size; written = 0; status = Passed; output = output }) (counted storage keys))
 
   pub bad_left : (found : Read) (r : Played) (output' : List ℕ) → found ≡ Bad

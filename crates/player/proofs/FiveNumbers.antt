@@ -19,9 +19,8 @@ use Rattle.machine.specs.declared.Request.TheVariants.{Access, Key, Prefix}
 use Rattle.machine.specs.declared.Reason.{Reason}
 use Rattle.machine.specs.declared.Reason.TheVariants.{Configuration, Record, Operand, Operation, Privileged, SpecialOperation, Specification}
 use Rattle.machine.specs.declared.Reason.TheVariants.{Addressing, Protection}
-use Rattle.machine.specs.declared.Verdict.TheVariants.{Clear}
+use Rattle.machine.specs.Answers.{Clear, Values, number, answer_of, line, first_of}
 use Rattle.machine.specs.Lists.{record_of}
-use Rattle.machine.specs.Answers.{Values, number, answer_of, line, first_of}
 use Rattle.machine.specs.Table.{own_record}
 use Rattle.machine.specs.Step.{with_code, with_prefix, step}
 use Rattle.machine.specs.Pair.{PairOutcome, pair_outcome, put_back, without_record}
@@ -33,9 +32,7 @@ use Rattle.machine.proofs.Refusals.{refused_64, refused_65, refused_1, refused_2
 use Rattle.machine.proofs.Requests.{by_verdict, completed_number, refused_by_table, controls_stay}
 use Rattle.machine.proofs.OwnRecord.{record_stays_valid}
 use Rattle.machine.proofs.Pairs.{by_record, has_record, lookup_get_or}
-use Rattle.trace.specs.declared.Read.{Read}
-use Rattle.trace.specs.declared.Read.TheVariants.{Request as ARequest, Remark, Bad, End}
-use Rattle.trace.specs.Trace.{read_of}
+use Rattle.trace.specs.Trace.{Read, ARequest, Remark, Bad, End, read_of}
 use Rattle.player.specs.Run.{start_settings, start_processor, start_state, start_progress, Progress, turn_of, after_request, after_other}
 use Rattle.player.specs.Run.{Line, Run, on_read, run_from, run_of}
 use Rattle.player.proofs.Sentences.{Lengths, lengths_at_start, lengths_kept}

@@ -6,10 +6,9 @@ use mathlib.Core.Option.{none}
 use lib.ListN.{length, replicate, length-replicate}
 use Rattle.machine.specs.declared.Request.TheVariants.{Access}
 use Rattle.machine.specs.declared.AccessKind.TheVariants.{Fetch}
-use Rattle.machine.specs.declared.Answer.TheVariants.{Completed}
+use Rattle.machine.specs.Answers.{Completed, Values, values, line, first_of, first_byte, first_line}
 use Rattle.machine.specs.Lists.{written}
 use Rattle.machine.specs.Key.{key_of, after_fetch}
-use Rattle.machine.specs.Answers.{Values, values, line, first_of, first_byte, first_line}
 use Rattle.machine.specs.Prefixing.{prefixed}
 use Rattle.machine.specs.Protection.{permitted, low_protected}
 use Rattle.machine.specs.Table.{addressing, protection, before_protection, verdict}

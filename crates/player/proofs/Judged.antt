@@ -11,8 +11,7 @@ use borrow.Author.Tests.{leb-true, leb-false, ltb-true, ltb-false, le-leb, lt-le
 use Rattle.machine.proofs.Verdicts.{not_both}
 use Rattle.house_record.specs.Little.{little}
 use Rattle.house_record.proofs.LittleBytes.{little-append}
-use Rattle.trace.specs.declared.Read.TheVariants.{Bad}
-use Rattle.trace.specs.Trace.{read_of}
+use Rattle.trace.specs.Trace.{Bad, read_of}
 use Rattle.trace.proofs.Front.{Fits, by_front, same_record}
 use Rattle.player.specs.Play.{judged}
 

@@ -18,9 +18,8 @@ use Rattle.machine.specs.declared.PrefixInstruction.TheVariants.{SetPrefix, Stor
 use Rattle.machine.specs.declared.KeyOperation.{KeyOperation}
 use Rattle.machine.specs.declared.KeyOperation.TheVariants.{Insert, Set, Reset}
 use Rattle.machine.specs.declared.Reason.TheVariants.{Configuration, Record}
-use Rattle.machine.specs.declared.Verdict.TheVariants.{Stop}
+use Rattle.machine.specs.Answers.{Stop, values, answer_of, line, first_of}
 use Rattle.machine.specs.Numbers.{lengths_valid}
-use Rattle.machine.specs.Answers.{values, answer_of, line, first_of}
 use Rattle.machine.specs.Key.{code_of}
 use Rattle.machine.specs.KeyInstructions.{operation, two_keys, first_unit, code_left}
 use Rattle.machine.specs.Step.{with_code, with_prefix, completed, step}
@@ -29,9 +28,7 @@ use Rattle.machine.specs.Turns.{State, Turn, given}
 use Rattle.machine.proofs.Requests.{number_of_reason, by_verdict, either_way, completed_number, controls_stay}
 use Rattle.machine.proofs.AnswerPlace.{place_below_256}
 use Rattle.machine.proofs.Pairs.{by_record, has_record}
-use Rattle.trace.specs.declared.Read.{Read}
-use Rattle.trace.specs.declared.Read.TheVariants.{Request as ARequest, Remark, Bad, End}
-use Rattle.trace.specs.Trace.{read_of}
+use Rattle.trace.specs.Trace.{Read, ARequest, Remark, Bad, End, read_of}
 use Rattle.player.specs.declared.Status.TheVariants.{More, Ended, Room, Limit}
 use Rattle.player.specs.Text.{decimal_in, decimal_of, line_text, bad_text}
 use Rattle.player.specs.Run.{Progress, start_processor, after_request, after_other, turn_of}

@@ -15,9 +15,7 @@ use Rattle.machine.specs.declared.Request.TheVariants.{Access, Key, Prefix}
 use Rattle.machine.specs.declared.AccessKind.TheVariants.{Fetch, Store}
 use Rattle.machine.specs.Turns.{Turn}
 use Rattle.machine.proofs.Verdicts.{not_both}
-use Rattle.trace.specs.declared.Read.{Read}
-use Rattle.trace.specs.declared.Read.TheVariants.{Request as ARequest, Remark, Bad, End}
-use Rattle.trace.specs.Trace.{read_of}
+use Rattle.trace.specs.Trace.{Read, ARequest, Remark, Bad, End, read_of}
 use Rattle.trace.proofs.Front.{size_within, store_size, remark_within, stable_request, stable_remark}
 use Rattle.player.specs.declared.Status.{Status}
 use Rattle.player.specs.declared.Status.TheVariants.{Passed, More, Ended, Room, Limit}

@@ -4,15 +4,15 @@ use native.Mathlib.Omega.{arith}
 use native.Mathlib.Nat.{zero-add, add-zero, add_assoc}
 use native.Mathlib.Numerals.{sub-one}
 use mathlib.Core.Path.{◌≡◌, refl, sym, ap, ◌∙◌}
-use mathlib.Core.Bool.{Bool, true, false, cond, ◌||◌}
+use mathlib.Core.Bool.{Bool, true, false, cond, not, ◌||◌}
+use denote.Enum.Bare.{sameb}
+use Rattle.player.specs.contracts.Status.{the_type}
 use mathlib.Core.List.{List, [], ◌++◌, append_assoc, append-nil}
 use lib.ListN.{length, take, drop, length-append, length-take, length-drop, drop_of_length-le}
 use lib.Seq.{take_at, drop_at, take_all, drop-drop}
 use lib.Dec.{ltb}
 use Rattle.machine.specs.declared.Settings.{Settings}
-use Rattle.trace.specs.declared.Read.{Read}
-use Rattle.trace.specs.declared.Read.TheVariants.{Request as ARequest, Remark, Bad, End}
-use Rattle.trace.specs.Trace.{read_of}
+use Rattle.trace.specs.Trace.{Read, ARequest, Remark, Bad, End, read_of}
 use Rattle.trace.proofs.Front.{size_within, remark_within}
 use Rattle.player.specs.declared.Player.{Player}
 use Rattle.player.specs.declared.Played.{Played}
@@ -162,6 +162,21 @@ module _ (s : Settings) (last : Bool) (bytes output₀ : List ℕ) (p₀ : Progr
 -- a part to the end is the rest
 tail_is : (l : List ℕ) (a : ℕ) → take (length l - a) (drop a l) ≡ drop a l
 tail_is l a = take_all (length l - a) (drop a l) (simp length-drop (omega arith))
+
+-- what the comparison of a status tells
+pub passed : (x : Status) → false ≡ not (sameb the_type x Passed) → x ≡ Passed
+passed Passed e = refl
+passed More e = cc
+passed Ended e = cc
+passed Room e = cc
+passed Limit e = cc
+
+pub not_passed : (x : Status) → true ≡ not (sameb the_type x Passed) → passes x ≡ false
+not_passed Passed e = cc
+not_passed More e = refl
+not_passed Ended e = refl
+not_passed Room e = refl
+not_passed Limit e = refl
 
 -- the same turn, as the call of `play_record` on parts of the bytes and of the output leaves it
 module _ (s : Settings) (last : Bool) (bytes output₀ : List ℕ) (p₀ : Progress) (output : List ℕ) (p : Progress) (at written n : ℕ)

@@ -3,29 +3,26 @@ use Prim.Native.Nat.{ℕ, ◌+◌, ◌-◌, ◌≤◌}
 use native.Mathlib.Omega.{arith}
 use mathlib.Core.Path.{◌≡◌, refl, ap, ◌∙◌}
 use mathlib.Core.List.{List}
-use lib.ListN.{length, take, drop, replicate, length-take, length-drop, length-replicate}
-use lib.Seq.{take_at}
+use lib.ListN.{length, take, drop, replicate, length-take, length-drop}
 use Rattle.machine.specs.declared.Settings.{Settings}
 use Rattle.machine.specs.declared.Processor.{Processor}
 use Rattle.machine.specs.declared.Request.{Request}
 use Rattle.machine.specs.declared.Request.TheVariants.{Access, Key, Prefix}
 use Rattle.machine.specs.declared.AccessKind.{AccessKind}
-use Rattle.machine.specs.declared.AccessKind.TheVariants.{Fetch, Store}
-use Rattle.machine.specs.declared.Answer.{Answer}
-use Rattle.machine.specs.Answers.{Values, values, number_of, place_of}
+use Rattle.machine.specs.declared.AccessKind.TheVariants.{Store}
+use Rattle.machine.specs.Answers.{Answer, Values, values, number_of, place_of}
 use Rattle.machine.specs.Pair.{PairOutcome}
 use Rattle.machine.specs.Conditions.{Condition2}
 use Rattle.machine.specs.Turns.{State, Turn, next, given}
-use Rattle.trace.specs.declared.Read.TheVariants.{Request as ARequest}
-use Rattle.trace.specs.Trace.{read_of}
+use Rattle.trace.specs.Trace.{ARequest, read_of}
 use Rattle.trace.proofs.Front.{size_within, store_size}
 use Rattle.player.specs.declared.Player.{Player}
 use Rattle.player.specs.declared.Status.TheVariants.{Passed}
-use Rattle.player.specs.Text.{pasted, over, line_text}
+use Rattle.player.specs.Text.{over, line_text}
 use Rattle.player.specs.Run.{progress, buffer_of, turn_of, line_of, text_of_line}
 use Rattle.player.specs.Play.{state_of, progress_of, request_played, PlayOutcome, play_outcome, play_outcome_of}
 
--- what `lend` leaves
+-- what is lent: the front of a buffer
 abbrev Lent : (r : ℕ) (buffer : List ℕ) (request : Request) (bytes : List ℕ) (size : ℕ) → Type 0
 Lent r buffer request bytes size = (r ≤ 512) × (take r buffer ≡ buffer_of request bytes size)
 
@@ -45,10 +42,6 @@ pub lent_zeros : (buffer : List ℕ) (request : Request) (bytes : List ℕ) (siz
     → NoAccess request → Lent 256 buffer request bytes size
 lent_zeros buffer request bytes size e h = (omega arith, taken buffer e ∙ zeros_of request bytes size h)
 
-pub lent_fetch : (buffer : List ℕ) (request : Request) (bytes : List ℕ) (size address count : ℕ) (kind : AccessKind)
-    → buffer ≡ replicate 512 0 → request ≡ Access kind address count → kind ≡ Fetch → Lent 256 buffer request bytes size
-lent_fetch buffer request bytes size address count kind e r k = rw (r, k) (omega arith, taken buffer e)
-
 module _ (bytes : List ℕ) (n : ℕ) (request : Request) (size address count : ℕ) (kind : AccessKind)
     (front : read_of bytes ≡ ARequest n request size) (access : request ≡ Access kind address count) (store : kind ≡ Store) where
   pub store_sizes : (11 ≤ size) × (size ≤ length bytes) × (size ≤ 514)
@@ -56,21 +49,8 @@ module _ (bytes : List ℕ) (n : ℕ) (request : Request) (size address count : 
       let within = size_within bytes n request size front in
       (omega (arith, store_size bytes n address count size (rw (access, store) at front)), within.1, within.2)
 
-  data_length : length (take (size - 11) (drop 11 bytes)) ≤ 503
+  pub data_length : length (take (size - 11) (drop 11 bytes)) ≤ 503
   data_length = simp (length-take, length-drop) (omega (arith, store_sizes))
-
-  module _ (buffer : List ℕ) (zeros : buffer ≡ replicate 512 0) where
-    pub store_fits : 0 + length (take (size - 11) (drop 11 bytes)) ≤ length buffer
-    store_fits = rw (zeros, length-replicate {A = ℕ} 512 0) (omega (arith, data_length))
-
-    pub lent_store : (r : ℕ) (buffer' : List ℕ) → r ≡ 0 + length (take (size - 11) (drop 11 bytes))
-        → buffer' ≡ pasted buffer 0 (take (size - 11) (drop 11 bytes)) → Lent r buffer' request bytes size
-    unfolding pasted
-    lent_store r buffer' e p =
-        rw (access, store) (
-          omega (arith, e, data_length),
-          rw p (take_at (take (size - 11) (drop 11 bytes)) (drop (0 + length (take (size - 11) (drop 11 bytes))) buffer) r (omega (arith, e))),
-        )
 
 -- what the unit leaves is what the turn of the request gives and leaves
 pub performed : (s : Settings) (storage keys : List ℕ) (ps : List Processor) (n : ℕ) (r : Request) (bytes : List ℕ) (size : ℕ) (b : List ℕ)

@@ -6,9 +6,7 @@ use mathlib.Core.Path.{◌≡◌, refl, ap}
 use mathlib.Core.List.{List, [], ◌∷◌, ◌++◌, map, append_assoc}
 use lib.ListN.{length, drop, length-drop}
 use Rattle.machine.specs.declared.Settings.{Settings}
-use Rattle.trace.specs.declared.Read.{Read}
-use Rattle.trace.specs.declared.Read.TheVariants.{Request as ARequest, Remark, Bad, End}
-use Rattle.trace.specs.Trace.{read_of}
+use Rattle.trace.specs.Trace.{Read, ARequest, Remark, Bad, End, read_of}
 use Rattle.trace.proofs.Front.{nothing_is_end, size_within, remark_within}
 use Rattle.player.specs.Run.{Progress, turn_of, after_request, after_other, Line, line_of, Run, line_then, on_read, run_from, run_of}
 use Rattle.player.specs.Run.{start_progress, start_settings, text_of_line, text_of_lines, text_of}

@@ -11,9 +11,7 @@ use Rattle.machine.specs.Pair.{PairOutcome}
 use Rattle.machine.specs.Turns.{State, Turn, turn_outcome, next}
 use Rattle.machine.proofs.Requests.{lengths_stay}
 use Rattle.machine.proofs.Pairs.{by_record, other_number_refused}
-use Rattle.trace.specs.declared.Read.{Read}
-use Rattle.trace.specs.declared.Read.TheVariants.{Request as ARequest, Remark, Bad, End}
-use Rattle.trace.specs.Trace.{read_of}
+use Rattle.trace.specs.Trace.{Read, ARequest, Remark, Bad, End, read_of}
 use Rattle.player.specs.Run.{Progress, progress, start_settings, start_state, turn_of, after_request, after_other, line_of}
 use Rattle.player.specs.Run.{Run, ended, line_then, on_read, run_from}
 use Rattle.player.proofs.Runs.{run_begins}

@@ -10,9 +10,7 @@ use lib.Dec.{ltb}
 use borrow.Author.Tests.{ltb-true}
 use Rattle.machine.specs.declared.Settings.{Settings}
 use Rattle.machine.proofs.Verdicts.{not_both}
-use Rattle.trace.specs.declared.Read.{Read}
-use Rattle.trace.specs.declared.Read.TheVariants.{Request as ARequest, Remark, Bad, End}
-use Rattle.trace.specs.Trace.{read_of}
+use Rattle.trace.specs.Trace.{Read, ARequest, Remark, Bad, End, read_of}
 use Rattle.trace.proofs.Front.{by_front, by_kind, size_within, remark_within}
 use Rattle.player.specs.declared.Status.{Status}
 use Rattle.player.specs.declared.Status.TheVariants.{Passed, More, Ended, Room, Limit}

@@ -4,9 +4,7 @@ use Rattle.machine.specs.declared.Settings.{Settings}
 use Rattle.machine.specs.declared.Processor.{Processor}
 use Rattle.machine.specs.Turns.{State, Turn}
 use Rattle.house_record.specs.Little.{little}
-use Rattle.trace.specs.declared.Read.{Read}
-use Rattle.trace.specs.declared.Read.TheVariants.{Request as ARequest, Remark, Bad, End}
-use Rattle.trace.specs.Trace.{read_of}
+use Rattle.trace.specs.Trace.{Read, ARequest, Remark, Bad, End, read_of}
 use Rattle.player.specs.declared.Player.{Player}
 use Rattle.player.specs.declared.Status.{Status}
 use Rattle.player.specs.declared.Status.TheVariants.{Passed, More, Ended, Room, Limit}

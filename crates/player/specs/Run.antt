@@ -7,9 +7,7 @@ use Rattle.machine.specs.declared.Request.{Request}
 use Rattle.machine.specs.declared.Request.TheVariants.{Access, Key, Prefix}
 use Rattle.machine.specs.declared.AccessKind.TheVariants.{Fetch, Store}
 use Rattle.machine.specs.Turns.{State, Turn, next, given}
-use Rattle.trace.specs.declared.Read.{Read}
-use Rattle.trace.specs.declared.Read.TheVariants.{Request as ARequest, Remark, Bad, End}
-use Rattle.trace.specs.Trace.{read_of, data_of}
+use Rattle.trace.specs.Trace.{Read, ARequest, Remark, Bad, End, read_of, data_of}
 use Rattle.player.specs.Text.{line_text, bad_text}
 
 -- how far a run is: the state, and how many requests and how many records of any kind came so far

@@ -1,11 +1,8 @@
 -- The lines that a run writes, as bytes (02, W1).
-use Rattle.std.specs.Prelude.{ℕ, zero, suc, ◌+◌, ◌/◌, ◌%◌, cond, List, [], ◌∷◌, ◌++◌, length, take, drop, ltb}
+use Rattle.std.specs.Prelude.{ℕ, zero, suc, ◌+◌, ◌/◌, ◌%◌, cond, List, [], ◌∷◌, ◌++◌, length, drop, ltb}
+unfoldable pub use Rattle.house_record.specs.Little.{pasted}
 
--- a list of bytes with a text at a place, and all else kept
-unfoldable pub pasted : List ℕ → ℕ → List ℕ → List ℕ
-pasted d at text = take at d ++ text ++ drop (at + length text) d
-
--- the same with the text in front
+-- a list of bytes with a text in front, and all else kept
 unfoldable pub over : List ℕ → List ℕ → List ℕ
 over text d = text ++ drop (length text) d
 

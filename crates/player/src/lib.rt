@@ -3,21 +3,23 @@
 #![tactic(auto)]
 
 mod perform;
+mod ready;
 mod text;
 
-ghost use Rattle.std.specs.Prelude.{ℕ, ◌+◌, ◌≤◌, ◌<◌, ◌≡◌, false, List, [], length};
-ghost use Rattle.player.specs.Run.{start_processor, after_other};
+ghost use Rattle.std.specs.Prelude.{ℕ, ◌+◌, ◌≡◌, false, List, [], length};
+ghost use Rattle.player.specs.Run.{start_processor};
 ghost use Rattle.player.specs.Play.{start_player, progress_of, left, judged, bad_played, end_played, is_request, read_played};
-ghost use Rattle.player.specs.Play.{record_played, passes, played as records_played, play_outcome, play_outcome_of};
+ghost use Rattle.player.specs.Play.{record_played, played as records_played, play_outcome, play_outcome_of};
 
-use crate::perform::play_request;
-use crate::text::put_bad;
+use crate::perform::Front;
+use crate::ready::Ready;
+use crate::text::{LINE_ROOM, put_bad};
 use house_record::fields::halfword;
 use machine::{Processor, Settings};
-use trace::{LENGTH_MAXIMUM, Read, read_record};
+use trace::{Item, LENGTH_MAXIMUM, NoItem, read_record};
 
 // How far a run is: the pair of records, and how many requests and how many records of any kind came so far.
-#[derive(Clone, Copy)]
+#[derive(Clone, Copy, Debug, PartialEq, Eq)]
 pub struct Player {
     pub processors: [Processor; 2],
     pub requests: u64,
@@ -25,7 +27,7 @@ pub struct Player {
 }
 
 // How a call stopped.
-#[derive(Clone, Copy)]
+#[derive(Clone, Copy, Debug, PartialEq, Eq)]
 pub enum Status {
     // A record was read and passed; another may follow.
     Passed,
@@ -40,19 +42,13 @@ pub enum Status {
 }
 
 // What a call leaves: the player, how many bytes it has read and how many it has written, and how it stopped.
-#[derive(Clone, Copy)]
+#[derive(Clone, Copy, Debug, PartialEq, Eq)]
 pub struct Played {
     pub player: Player,
     pub read: usize,
     pub written: usize,
     pub status: Status,
 }
-
-// Every line has room in so many bytes.
-const LINE_ROOM: usize = 64;
-
-// The greatest ordinal.
-const ORDINAL_MAXIMUM: u64 = 18446744073709551615;
 
 // A record that is zero, in supervisor state.
 fn zero_record() -> Processor
@@ -72,69 +68,53 @@ fn zero_record() -> Processor
 pub fn start() -> Player
     ensures { result ≡ start_player }
 {
-    let processors = [zero_record(), zero_record()];
     Player {
-        processors,
+        processors: [zero_record(); 2],
         requests: 0,
         records: 0,
     }
 }
 
-// Nothing is read and nothing is written.
-fn stopped(player: Player, status: Status) -> Played
-    ensures { (storage keys output : List ℕ)
-        → play_outcome result storage keys output ≡ play_outcome_of (left [] (progress_of player storage keys) 0 status) output }
-{
-    Played {
-        player,
-        read: 0,
-        written: 0,
-        status,
+impl Player {
+    // Nothing is read and nothing is written.
+    #[tactic(auto, unfolding(crate::specs::Text::over))]
+    fn stopped(self, status: Status) -> Played
+        ensures { (storage keys output : List ℕ)
+            → play_outcome result storage keys output ≡ play_outcome_of (left [] (progress_of self storage keys) 0 status) output }
+    {
+        Played {
+            player: self,
+            read: 0,
+            written: 0,
+            status,
+        }
     }
-}
-
-// The player with one record more, which is no request.
-fn counted(player: Player) -> Player
-    requires { player.records < 18446744073709551615 }
-    ensures { (storage keys : List ℕ) → progress_of result storage keys ≡ after_other (progress_of player storage keys) }
-{
-    let mut next = player;
-    next.records = player.records + 1;
-    next
 }
 
 // The record in front can be judged whatever follows: its length is over 512, or all that the length counts is there.
+#[tactic(auto, unfolding(crate::specs::Play::judged))]
 fn can_be_judged(bytes: &[u8]) -> bool
     ensures { result ≡ judged bytes.now }
 {
-    if bytes.len() < 2 {
-        return false;
-    }
     let stated = halfword(bytes, 0) as usize;
-    if LENGTH_MAXIMUM < stated {
-        return true;
-    }
-    2 + stated <= bytes.len()
+    2 <= bytes.len() && (LENGTH_MAXIMUM < stated || 2 + stated <= bytes.len())
 }
 
 // A bad record: it ends the run with its line where nothing comes behind the bytes or where it can be judged.
-fn bad_record(player: Player, bytes: &[u8], last: bool, output: &mut [u8]) -> Played
-    requires { (64 ≤ length output.old) × (player.records < 18446744073709551615) }
-    ensures { (storage keys : List ℕ) → play_outcome result storage keys output.new
-        ≡ play_outcome_of (bad_played last (progress_of player storage keys) bytes.now) output.old }
+fn bad_record(ready: Ready, bytes: &[u8], last: bool, line: &mut [u8; LINE_ROOM]) -> Played
+    ensures { (storage keys : List ℕ) → play_outcome result storage keys line.new
+        ≡ play_outcome_of (bad_played last (progress_of ready.player storage keys) bytes.now) line.old }
 {
-    let is_judged = can_be_judged(bytes);
-    if last | is_judged {
-        let after = counted(player);
-        let written = put_bad(output, after.records);
-        return Played {
-            player: after,
-            read: 0,
-            written,
-            status: Status::Ended,
-        };
+    if !last && !can_be_judged(bytes) {
+        return ready.player.stopped(Status::More);
     }
-    stopped(player, Status::More)
+    let after = ready.after_other();
+    Played {
+        player: after,
+        read: 0,
+        written: put_bad(line, after.records),
+        status: Status::Ended,
+    }
 }
 
 // The end of the bytes, which is that of the recording where nothing comes behind them.
@@ -142,36 +122,36 @@ fn end_of_bytes(player: Player, last: bool) -> Played
     ensures { (storage keys output : List ℕ)
         → play_outcome result storage keys output ≡ play_outcome_of (end_played last (progress_of player storage keys)) output }
 {
-    if last {
-        return stopped(player, Status::Ended);
-    }
-    stopped(player, Status::More)
+    player.stopped(if last { Status::Ended } else { Status::More })
 }
 
 // What is no request: a remark is passed over, a bad record and the end of the recording end the run.
-fn aside(found: Read, player: Player, bytes: &[u8], last: bool, output: &mut [u8]) -> Played
-    requires { (is_request found ≡ false) × (64 ≤ length output.old) × (player.records < 18446744073709551615) }
-    ensures { (s : Settings) (storage keys : List ℕ) → play_outcome result storage keys output.new
-        ≡ play_outcome_of (read_played found s last (progress_of player storage keys) bytes.now) output.old }
+fn aside(
+    found: Result<Item, NoItem>,
+    ready: Ready,
+    bytes: &[u8],
+    last: bool,
+    line: &mut [u8; LINE_ROOM],
+) -> Played
+    requires { is_request found ≡ false }
+    ensures outcome { (s : Settings) (storage keys : List ℕ) → play_outcome result storage keys line.new
+        ≡ play_outcome_of (read_played found s last (progress_of ready.player storage keys) bytes.now) line.old }
+    ensures room { length line.new ≡ 64 }
 {
     match found {
-        Read::Request {
-            processor_number,
-            request,
-            size,
-        } => stopped(player, Status::More),
-        Read::Remark { size } => Played {
-            player: counted(player),
-            read: size,
+        Ok(remark) => Played {
+            player: ready.after_other(),
+            read: remark.size(),
             written: 0,
             status: Status::Passed,
         },
-        Read::Bad => bad_record(player, bytes, last, output),
-        Read::End => end_of_bytes(player, last),
+        Err(NoItem::Bad) => bad_record(ready, bytes, last, line),
+        Err(NoItem::End) => end_of_bytes(ready.player, last),
     }
 }
 
 // The record in front of the bytes. `last`: nothing comes behind them. Its text is put in front of the output.
+// Settings, storage and keys stay parameters of their own, here and below: `storage_unit::request` and who calls `play` have them one by one.
 pub fn play_record(
     settings: Settings,
     storage: &mut [u8],
@@ -185,45 +165,30 @@ pub fn play_record(
         ≡ play_outcome_of (record_played settings last (length output.old) (progress_of player storage.old keys.old)
         bytes.now) output.old }
 {
-    if output.len() < LINE_ROOM {
-        return stopped(player, Status::Room);
-    }
-    if (player.records == ORDINAL_MAXIMUM) | (player.requests == ORDINAL_MAXIMUM) {
-        return stopped(player, Status::Limit);
-    }
-    let found = read_record(bytes);
-    let Read::Request {
-        processor_number,
-        request,
-        size,
-    } = found
-    else {
-        return aside(found, player, bytes, last, output);
+    let Some(line) = output.first_chunk_mut::<LINE_ROOM>() else {
+        return player.stopped(Status::Room);
     };
-    play_request(
-        settings,
-        storage,
-        keys,
-        player,
+    let Some(ready) = Ready::new(player) else {
+        return player.stopped(Status::Limit);
+    };
+    let found = read_record(bytes);
+    let Ok(
+        Item::Request {
+            processor_number,
+            request,
+            size,
+        },
+    ) = found
+    else {
+        return aside(found, ready, bytes, last, line);
+    };
+    let front = Front {
+        bytes,
         processor_number,
         request,
-        bytes,
         size,
-        output,
-    )
-}
-
-// The record was read and passed.
-fn passed(status: Status) -> bool
-    ensures { result ≡ passes status }
-{
-    match status {
-        Status::Passed => true,
-        Status::More => false,
-        Status::Ended => false,
-        Status::Room => false,
-        Status::Limit => false,
-    }
+    };
+    front.play(settings, storage, keys, ready, line)
 }
 
 // Record after record, until one does not pass. The texts are put in front of the output, one behind the other.
@@ -240,39 +205,31 @@ pub fn play(
         ≡ play_outcome_of (records_played (length bytes.now + 1) settings last (length output.old)
         (progress_of player storage.old keys.old) bytes.now) output.old }
 {
-    let mut at = 0;
-    let mut written = 0;
-    let mut next = player;
-    let mut left = bytes.len() + 1;
-    while 0 < left {
+    let mut all = Played {
+        player,
+        read: 0,
+        written: 0,
+        status: Status::Passed,
+    };
+    for _ in 0..=bytes.len() {
         let part = play_record(
             settings,
             storage,
             keys,
-            next,
-            &bytes[at..],
+            all.player,
+            &bytes[all.read..],
             last,
-            &mut output[written..],
+            &mut output[all.written..],
         );
-        let status = part.status;
-        let after = part.player;
-        next = after;
-        at += part.read;
-        written += part.written;
-        left -= 1;
-        if !passed(status) {
-            return Played {
-                player: next,
-                read: at,
-                written,
-                status,
-            };
+        all = Played {
+            player: part.player,
+            read: all.read + part.read,
+            written: all.written + part.written,
+            status: part.status,
+        };
+        if all.status != Status::Passed {
+            return all;
         }
     }
-    Played {
-        player: next,
-        read: at,
-        written,
-        status: Status::Passed,
-    }
+    all
 }

@@ -13,7 +13,7 @@ use table::numbers::ADDRESS_SPACE;
 pub fn add24(a: u32, b: u32) -> u32
     ensures { result ≡ sum24 a b }
 {
-    std::num::wrapping_add_u32(a, b) % ADDRESS_SPACE
+    a.wrapping_add(b) % ADDRESS_SPACE
 }
 
 // Bits 1-19 of an address: the number of its 4K block.
@@ -24,6 +24,7 @@ fn block_of(address: u32) -> u32
 }
 
 // A real address with prefixing applied: its absolute address, and the rule that gave it.
+#[tactic(auto, using(machine::proofs::Prefixing::rule_1, machine::proofs::Prefixing::rule_2, machine::proofs::Prefixing::rule_3))]
 pub fn prefixed(prefix: u32, real: u32) -> Prefixed
     ensures { result ≡ prefixed_by prefix real }
 {

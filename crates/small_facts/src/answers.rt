@@ -2,8 +2,7 @@
 ghost use Rattle.std.specs.Prelude.{◌≡◌};
 ghost use Rattle.machine.specs.Answers.{number_of, place_of, word_of, rule_of};
 
-use machine::Answer;
-use table::answers::number_of;
+use machine::{Answer, Completion, Refusal};
 
 #[derive(Clone, Copy)]
 pub(crate) struct Values {
@@ -13,24 +12,24 @@ pub(crate) struct Values {
     pub(crate) rule: u32,
 }
 
-pub(crate) fn values_of(answer: Answer) -> Values
-    ensures { (result.number ≡ number_of answer) × ((result.place ≡ place_of answer) × ((result.word ≡ word_of answer) × (result.rule ≡ rule_of answer))) }
-{
-    match answer {
-        Answer::Completed { word, rule } => Values {
-            number: 0,
-            place: 0,
-            word,
-            rule,
-        },
-        Answer::Refused { reason, place } => {
-            let number = number_of(reason);
-            Values {
-                number,
+impl From<Answer> for Values {
+    ghost from_gives = { λ answer values. (values.number ≡ number_of answer) × (values.place ≡ place_of answer) × (values.word ≡ word_of answer)
+        × (values.rule ≡ rule_of answer) };
+
+    fn from(answer: Answer) -> Self {
+        match answer {
+            Ok(Completion { word, rule }) => Values {
+                number: 0,
+                place: 0,
+                word,
+                rule,
+            },
+            Err(Refusal { reason, place }) => Values {
+                number: reason.into(),
                 place,
                 word: 0,
                 rule: 0,
-            }
+            },
         }
     }
 }

@@ -1,7 +1,7 @@
 // A case of the table: the machine before a request of processor 0, and what is seen of it afterwards.
-use crate::answers::{Values, values_of};
-use crate::compare::{difference, same_records};
-use machine::{AccessKind, KeyInstruction, PrefixInstruction, Processor, Reply, Request, Settings};
+use crate::answers::Values;
+use crate::state::{State, processor};
+use machine::{AccessKind, KeyInstruction, PrefixInstruction, Processor, Request};
 
 // Every byte of the buffer. Storage is zero before the request.
 const BYTE: u8 = 0xA5;
@@ -15,55 +15,28 @@ pub(crate) struct Case {
     request: Request,
 }
 
+// Number, place, word and rule of the answer, the condition code, and the keys of the first two units.
 #[derive(Clone, Copy)]
 pub(crate) struct Seen {
-    pub(crate) answer: Values,
+    pub(crate) number: u32,
+    pub(crate) place: u32,
+    pub(crate) word: u32,
+    pub(crate) rule: u32,
     pub(crate) code: u8,
     pub(crate) first_key: u8,
     pub(crate) second_key: u8,
 }
 
-// 2K units, extensions present.
-pub(crate) fn settings() -> Settings {
-    Settings {
-        four_k: false,
-        extensions: true,
-    }
-}
-
-// A processor in supervisor state with PSW key 0 and bit 3 off.
-pub(crate) fn processor(prefix: u32) -> Processor {
-    Processor {
-        psw_key: 0,
-        problem: false,
-        low_protection: false,
-        key_control: false,
-        prefix,
-        code: 0,
-    }
-}
-
-fn case_of(request: Request) -> Case {
-    Case {
-        processor: processor(0),
-        first_key: 0,
-        second_key: 0,
-        request,
-    }
-}
-
 pub(crate) fn fetch(address: u32, count: u32) -> Case {
-    let kind = AccessKind::Fetch;
-    case_of(Request::Access {
-        kind,
-        address,
-        count,
-    })
+    access(AccessKind::Fetch, address, count)
 }
 
 pub(crate) fn store(address: u32, count: u32) -> Case {
-    let kind = AccessKind::Store;
-    case_of(Request::Access {
+    access(AccessKind::Store, address, count)
+}
+
+fn access(kind: AccessKind, address: u32, count: u32) -> Case {
+    Case::new(Request::Access {
         kind,
         address,
         count,
@@ -71,14 +44,23 @@ pub(crate) fn store(address: u32, count: u32) -> Case {
 }
 
 pub(crate) fn key(instruction: KeyInstruction) -> Case {
-    case_of(Request::Key(instruction))
+    Case::new(Request::Key(instruction))
 }
 
 pub(crate) fn set_prefix(word: u32) -> Case {
-    case_of(Request::Prefix(PrefixInstruction::SetPrefix { word }))
+    Case::new(Request::Prefix(PrefixInstruction::SetPrefix { word }))
 }
 
 impl Case {
+    fn new(request: Request) -> Self {
+        Case {
+            processor: processor(0),
+            first_key: 0,
+            second_key: 0,
+            request,
+        }
+    }
+
     pub(crate) fn psw_key(mut self, psw_key: u8) -> Self {
         self.processor.psw_key = psw_key;
         self
@@ -100,61 +82,48 @@ impl Case {
         self
     }
 
-    fn key_array(self) -> [u8; 32] {
-        let mut keys = [0u8; 32];
-        keys[0] = self.first_key;
-        keys[1] = self.second_key;
-        keys
-    }
-
-    fn pair(self) -> [Processor; 2] {
-        let own = self.processor;
-        [own, processor(0)]
-    }
-
-    fn perform(self, storage: &mut [u8], keys: &mut [u8], buffer: &mut [u8]) -> Reply {
-        let request = self.request;
-        storage_unit::request(settings(), storage, keys, self.pair(), 0, request, buffer)
+    // The state before the request.
+    fn before(self) -> State {
+        let mut state = State::new([self.processor, processor(0)]);
+        state.keys[0] = self.first_key;
+        state.keys[1] = self.second_key;
+        state
     }
 
     // What the request answers, and what it leaves in its record and in the first two keys.
     pub(crate) fn seen(self) -> Seen {
-        let mut storage = [0u8; 65536];
-        let mut keys = self.key_array();
-        let mut buffer = [BYTE; 300];
-        let reply = self.perform(&mut storage, &mut keys, &mut buffer);
-        let answer = reply.answer;
-        let left = reply.processors;
-        let own = left[0];
+        let mut state = self.before();
+        let answer = state.serve(0, self.request, &mut [BYTE; 300]);
+        let Values {
+            number,
+            place,
+            word,
+            rule,
+        } = Values::from(answer);
         Seen {
-            answer: values_of(answer),
-            code: own.code,
-            first_key: keys[0],
-            second_key: keys[1],
+            number,
+            place,
+            word,
+            rule,
+            code: state.processors[0].code,
+            first_key: state.keys[0],
+            second_key: state.keys[1],
         }
     }
 
     // The first absolute address at which the request changes storage; the length of storage where it changes none.
     pub(crate) fn absolute(self) -> usize {
-        let before = [0u8; 65536];
-        let mut storage = [0u8; 65536];
-        let mut keys = self.key_array();
-        let mut buffer = [BYTE; 300];
-        self.perform(&mut storage, &mut keys, &mut buffer);
-        difference(&before, &storage)
+        let mut state = self.before();
+        let _ = state.serve(0, self.request, &mut [BYTE; 300]);
+        state.first_written()
     }
 
     // Storage, keys, both records and the buffer are as they were.
-    pub(crate) fn unchanged(self) -> bool {
-        let before = [0u8; 65536];
-        let mut storage = [0u8; 65536];
-        let mut keys = self.key_array();
+    pub(crate) fn is_unchanged(self) -> bool {
+        let before = self.before();
+        let mut state = before;
         let mut buffer = [BYTE; 300];
-        let reply = self.perform(&mut storage, &mut keys, &mut buffer);
-        let left = reply.processors;
-        (difference(&before, &storage) == 65536)
-            & (difference(&self.key_array(), &keys) == 32)
-            & (difference(&[BYTE; 300], &buffer) == 300)
-            & same_records(self.pair(), left)
+        let _ = state.serve(0, self.request, &mut buffer);
+        state == before && buffer == [BYTE; 300]
     }
 }

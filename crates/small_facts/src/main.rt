@@ -3,37 +3,48 @@
 
 mod answers;
 mod case;
-mod compare;
 mod orders;
-mod show;
+mod state;
 
-use case::{fetch, key, set_prefix, store};
+use case::{Case, fetch, key, set_prefix, store};
 use machine::KeyInstruction;
-use show::{absolute, changes, show};
 use std::io;
 
 fn prefixing(rt: &impl Print) -> io::Result<()> {
-    absolute(rt, b"P1 absolute ", store(4, 1).prefix(8192))?;
-    absolute(rt, b"P2 absolute ", store(8196, 1).prefix(8192))?;
-    absolute(rt, b"P3 absolute ", store(5000, 1).prefix(8192))
+    println!(rt; "P1 absolute {}", store(4, 1).prefix(8192).absolute())?;
+    println!(rt; "P2 absolute {}", store(8196, 1).prefix(8192).absolute())?;
+    println!(rt; "P3 absolute {}", store(5000, 1).prefix(8192).absolute())
 }
 
 fn one_unit(rt: &impl Print) -> io::Result<()> {
     let fetch_3 = fetch(0, 1).psw_key(3);
     let store_3 = store(0, 1).psw_key(3);
     let store_8 = store(0, 1).psw_key(8);
-    show(rt, b"P4 number %n place %p key %k\n", fetch_3.keys(0x88, 0))?;
-    show(rt, b"P5 number %n key %k\n", fetch_3.keys(0x80, 0))?;
-    show(rt, b"P6 number %n key %k\n", store_3.keys(0x80, 0))?;
-    show(rt, b"P7 number %n key %k\n", store_8.keys(0x88, 0))
+    let p4 = fetch_3.keys(0x88, 0).seen();
+    println!(rt;
+        "P4 number {} place {} key {:02X}",
+        p4.number, p4.place, p4.first_key
+    )?;
+    let p5 = fetch_3.keys(0x80, 0).seen();
+    println!(rt; "P5 number {} key {:02X}", p5.number, p5.first_key)?;
+    let p6 = store_3.keys(0x80, 0).seen();
+    println!(rt; "P6 number {} key {:02X}", p6.number, p6.first_key)?;
+    let p7 = store_8.keys(0x88, 0).seen();
+    println!(rt; "P7 number {} key {:02X}", p7.number, p7.first_key)
 }
 
 fn two_units(rt: &impl Print) -> io::Result<()> {
     let store_0 = store(2047, 2).keys(0x30, 0x50);
     let store_3 = store_0.psw_key(3);
-    show(rt, b"P8 number %n place %p ", store_3)?;
-    changes(rt, store_3)?;
-    show(rt, b"P9 keys %k and %s\n", store_0)
+    let p8 = store_3.seen();
+    let outcome = if store_3.is_unchanged() {
+        "nothing changed"
+    } else {
+        "something changed"
+    };
+    println!(rt; "P8 number {} place {} {outcome}", p8.number, p8.place)?;
+    let p9 = store_0.seen();
+    println!(rt; "P9 keys {:02X} and {:02X}", p9.first_key, p9.second_key)
 }
 
 fn key_instructions(rt: &impl Print) -> io::Result<()> {
@@ -43,42 +54,52 @@ fn key_instructions(rt: &impl Print) -> io::Result<()> {
         r2: 0,
     };
     let iske = KeyInstruction::Iske { r1: 0, r2: 0 };
-    show(rt, b"P10 code %c key %k\n", key(rrb).keys(0x8E, 0))?;
-    show(rt, b"P11 word %w\n", key(isk).keys(0x8E, 0))?;
-    show(rt, b"P12 word %w\n", key(iske).keys(0x84, 0x52))
+    let p10 = key(rrb).keys(0x8E, 0).seen();
+    println!(rt; "P10 code {} key {:02X}", p10.code, p10.first_key)?;
+    println!(rt; "P11 word {:08X}", key(isk).keys(0x8E, 0).seen().word)?;
+    println!(rt; "P12 word {:08X}", key(iske).keys(0x84, 0x52).seen().word)
 }
 
 fn low_addresses(rt: &impl Print) -> io::Result<()> {
-    show(rt, b"13 number %n", store(511, 1).low_protection())?;
-    show(rt, b"; %n\n", store(512, 1).low_protection())?;
+    let inside = store(511, 1).low_protection().seen();
+    let outside = store(512, 1).low_protection().seen();
+    println!(rt; "13 number {}; {}", inside.number, outside.number)?;
     let prefixed = store(8192, 1).low_protection().prefix(8192);
-    show(rt, b"14 number %n", prefixed)?;
-    absolute(rt, b" absolute ", prefixed)
+    println!(rt;
+        "14 number {} absolute {}",
+        prefixed.seen().number,
+        prefixed.absolute()
+    )
 }
 
 fn lengths(rt: &impl Print) -> io::Result<()> {
-    show(rt, b"15 number %n", fetch(65535, 1))?;
-    show(rt, b"; %n place %p\n", fetch(65535, 2))?;
-    show(rt, b"17 number %n", store(0, 0))?;
-    show(rt, b"; %n", store(0, 256))?;
-    show(rt, b"; %n\n", store(0, 257))
+    let inside = fetch(65535, 1).seen();
+    let outside = fetch(65535, 2).seen();
+    println!(rt;
+        "15 number {}; {} place {}",
+        inside.number, outside.number, outside.place
+    )?;
+    let number = |count| store(0, count).seen().number;
+    println!(rt; "17 number {}; {}; {}", number(0), number(256), number(257))
 }
 
 fn set_key(rt: &impl Print) -> io::Result<()> {
     let r1 = 0xFF;
-    let whole = KeyInstruction::Ssk { r1, r2: 0x800 };
-    let odd = KeyInstruction::Ssk { r1, r2: 0x801 };
-    show(rt, b"18 second key %s", key(whole))?;
-    show(rt, b"; number %n\n", key(odd))
+    let whole = key(KeyInstruction::Ssk { r1, r2: 0x800 }).seen();
+    let odd = key(KeyInstruction::Ssk { r1, r2: 0x801 }).seen();
+    println!(rt;
+        "18 second key {:02X}; number {}",
+        whole.second_key, odd.number
+    )
 }
 
 // Document 02: the example of W2, and the rules of W6.
 fn examples(rt: &impl Print) -> io::Result<()> {
     let rrbe = KeyInstruction::Rrbe { r2: 0 };
-    show(
-        rt,
-        b"W2 code %c keys %k and %s\n",
-        key(rrbe).keys(0x84, 0x52),
+    let w2 = key(rrbe).keys(0x84, 0x52).seen();
+    println!(rt;
+        "W2 code {} keys {:02X} and {:02X}",
+        w2.code, w2.first_key, w2.second_key
     )?;
     rules(rt)
 }
@@ -90,14 +111,19 @@ fn rules(rt: &impl Print) -> io::Result<()> {
         r1: 0,
         r2: 0x01002000,
     };
-    show(rt, b"W6 rules %r", fetch(4, 1).prefix(8192))?;
-    show(rt, b" %r", fetch(8196, 1).prefix(8192))?;
-    show(rt, b" %r", fetch(5000, 1).prefix(8192))?;
-    show(rt, b"; %r", fetch(8191, 2).prefix(8192))?;
-    show(rt, b"; %r", key(isk).prefix(8192))?;
-    show(rt, b"; %r", fetch(4, 1))?;
-    show(rt, b"; number %n rule %r", fetch(65535, 2).prefix(8192))?;
-    show(rt, b"; %r\n", set_prefix(8192))
+    let rule = |case: Case| case.seen().rule;
+    let prefixed = |case: Case| rule(case.prefix(8192));
+    print!(rt; "W6 rules {}", prefixed(fetch(4, 1)))?;
+    print!(rt;
+        " {} {}",
+        prefixed(fetch(8196, 1)),
+        prefixed(fetch(5000, 1))
+    )?;
+    print!(rt; "; {}; {}", prefixed(fetch(8191, 2)), prefixed(key(isk)))?;
+    print!(rt; "; {}", rule(fetch(4, 1)))?;
+    let refused = fetch(65535, 2).prefix(8192).seen();
+    print!(rt; "; number {} rule {}", refused.number, refused.rule)?;
+    println!(rt; "; {}", rule(set_prefix(8192)))
 }
 
 fn main(rt: HostRuntime) -> io::Result<()> {

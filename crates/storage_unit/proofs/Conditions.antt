@@ -9,9 +9,8 @@ use borrow.Author.Tests.{lt-ltb}
 use Rattle.machine.specs.declared.Settings.{Settings}
 use Rattle.machine.specs.declared.Processor.{Processor}
 use Rattle.machine.specs.declared.Request.{Request}
-use Rattle.machine.specs.declared.Answer.{Answer}
+use Rattle.machine.specs.Answers.{Answer, answer_of}
 use Rattle.machine.specs.Lists.{record_of}
-use Rattle.machine.specs.Answers.{answer_of}
 use Rattle.machine.specs.Step.{outcome, step}
 use Rattle.machine.specs.Pair.{put_back, without_record}
 use Rattle.machine.specs.Conditions.{Condition1, Condition2}

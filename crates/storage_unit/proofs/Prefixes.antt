@@ -12,8 +12,8 @@ use Rattle.machine.proofs.Verdicts.{first_none, first_assoc, skipped}
 
 -- the lines that a prefix instruction can meet
 pub four_lines : (s : Settings) (storage_length key_length : ℕ) (p : Processor) (i : PrefixInstruction)
-    → first_of (first_of (configuration s storage_length key_length) (own_record storage_length p))
+    → before_protection s storage_length key_length p (Prefix i) 0
+    ≡ first_of (first_of (configuration s storage_length key_length) (own_record storage_length p))
     (first_of (line Privileged p.problem) (line Addressing (install_outside storage_length i)))
-    ≡ before_protection s storage_length key_length p (Prefix i) 0
 unfolding before_protection first_line addressing
 four_lines s storage_length key_length p i = simp (first_assoc, first_none, skipped)

@@ -1,4 +1,5 @@
-// The storage unit: one request for one processor, one answer.
+// The storage unit: one request for one processor, one answer. What is lent is passed one by one: with a struct of the references, clauses would speak
+// of what each field was lent from.
 #![tactic(auto)]
 
 pub mod prefix;
@@ -10,9 +11,8 @@ ghost use Rattle.machine.specs.Conditions.{Condition1, Condition2};
 use crate::prefix::prefix_instruction;
 use access::access;
 use key_instruction::key_instruction;
-use machine::{Processor, Reply, Request, Served, Settings};
-use table::answers::answer_of;
-use table::numbers::without_record;
+use machine::{Completion, Processor, Reply, Request, Served, Settings};
+use table::numbers::Sizes;
 
 // One request for a processor with the record p, over lent storage, keys and buffer.
 pub fn serve(
@@ -48,7 +48,7 @@ pub fn serve(
 }
 
 // One request that carries a processor's number. The pair of records goes in, and comes back with the answer as the request leaves it: one
-// element at most is replaced.
+// element at most is replaced. That the pair is an array by value is a form that the specification asks for (docs/DECISIONS.md).
 pub fn request(
     settings: Settings,
     storage: &mut [u8],
@@ -66,18 +66,16 @@ pub fn request(
     if processor_number < 2 {
         let p = processors[processor_number];
         let served = serve(settings, storage, keys, p, request, buffer);
-        let answer = served.answer;
-        let processor = served.processor;
         let mut next = processors;
-        next[processor_number] = processor;
+        next[processor_number] = served.processor;
         return Reply {
-            answer,
+            answer: served.answer,
             processors: next,
         };
     }
-    let refused = without_record(settings, storage.len(), keys.len());
+    let refused = Sizes::of(settings, &storage[..], &keys[..]).lines_without_record();
     Reply {
-        answer: answer_of(refused, 0, 0),
+        answer: refused.map(|_| Completion { word: 0, rule: 0 }),
         processors,
     }
 }

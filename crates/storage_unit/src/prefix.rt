@@ -1,12 +1,14 @@
 // SET PREFIX and STORE PREFIX. They touch no storage, no key and no buffer.
 ghost use Rattle.std.specs.Prelude.{◌≡◌, []};
 ghost use Rattle.machine.specs.Table.{install_outside, before_protection};
-ghost use Rattle.machine.specs.Step.{record_left, prefix_given, rule_given, outcome, step};
+ghost use Rattle.machine.specs.Step.{outcome, step};
 
-use machine::{Answer, PrefixInstruction, Processor, Reason, Request, Served, Settings, Verdict};
+use machine::{
+    Answer, Completion, PrefixInstruction, Processor, Reason, Request, Served, Settings, Verdict,
+};
 use prefixing::prefix_of;
-use table::answers::{answer_of, first_of, refuse, stops};
-use table::numbers::valid;
+use table::answers::refuse;
+use table::numbers::Sizes;
 
 // Line 5: the block that SET PREFIX would install lies outside storage.
 fn install_outside(storage_length: usize, instruction: PrefixInstruction) -> bool
@@ -18,49 +20,37 @@ fn install_outside(storage_length: usize, instruction: PrefixInstruction) -> boo
     }
 }
 
-// The lines of the table that a prefix instruction can meet.
-fn verdict(
-    settings: Settings,
-    storage_length: usize,
-    key_length: usize,
-    p: Processor,
-    instruction: PrefixInstruction,
-) -> Verdict
-    ensures { result ≡ before_protection settings storage_length key_length p (Request.Prefix instruction) 0 }
+// The lines of the table that a prefix instruction can meet: 64, 65, 2 and 5.
+#[tactic(auto, using(crate::proofs::Prefixes::four_lines), unfolding(machine::specs::Answers::first_of))]
+fn lines(sizes: Sizes, p: Processor, instruction: PrefixInstruction) -> Verdict
+    ensures { result ≡ before_protection sizes.settings sizes.storage sizes.keys p (Request.Prefix instruction) 0 }
 {
-    let machine = valid(settings, storage_length, key_length, p);
-    let outside = install_outside(storage_length, instruction);
-    first_of(
-        machine,
-        first_of(
-            refuse(Reason::Privileged, p.problem),
-            refuse(Reason::Addressing, outside),
-        ),
-    )
+    let outside = install_outside(sizes.storage, instruction);
+    sizes.lines(p)?;
+    refuse(Reason::Privileged, p.problem)?;
+    refuse(Reason::Addressing, outside)
 }
 
-// What a completed prefix instruction gives and leaves.
-fn complete(p: Processor, instruction: PrefixInstruction) -> Served
-    ensures { (result.answer ≡ Answer.Completed (prefix_given p instruction) (rule_given p (Request.Prefix instruction)))
-        × (result.processor ≡ record_left p instruction) }
+// A prefix instruction of a processor whose record is lent.
+fn perform(
+    settings: Settings,
+    storage: &[u8],
+    keys: &[u8],
+    p: &mut Processor,
+    instruction: PrefixInstruction,
+) -> Answer
+    ensures { outcome result storage.now keys.now p.new []
+        ≡ step settings storage.now keys.now p.old (Request.Prefix instruction) [] }
 {
-    match instruction {
+    lines(Sizes::of(settings, storage, keys), *p, instruction)?;
+    let word = match instruction {
         PrefixInstruction::SetPrefix { word } => {
-            let mut next = p;
-            next.prefix = prefix_of(word);
-            Served {
-                answer: Answer::Completed { word: 0, rule: 0 },
-                processor: next,
-            }
+            p.prefix = prefix_of(word);
+            0
         }
-        PrefixInstruction::StorePrefix => Served {
-            answer: Answer::Completed {
-                word: prefix_of(p.prefix),
-                rule: 0,
-            },
-            processor: p,
-        },
-    }
+        PrefixInstruction::StorePrefix => prefix_of(p.prefix),
+    };
+    Ok(Completion { word, rule: 0 })
 }
 
 // A prefix instruction for a processor with the record p. It takes no buffer: it is the step with an empty one. Of storage and key array it
@@ -75,12 +65,7 @@ pub fn prefix_instruction(
     ensures { outcome result.answer storage.now keys.now result.processor []
         ≡ step settings storage.now keys.now p (Request.Prefix instruction) [] }
 {
-    let found = verdict(settings, storage.len(), keys.len(), p, instruction);
-    if stops(found) {
-        return Served {
-            answer: answer_of(found, 0, 0),
-            processor: p,
-        };
-    }
-    complete(p, instruction)
+    let mut processor = p;
+    let answer = perform(settings, storage, keys, &mut processor, instruction);
+    Served { answer, processor }
 }

@@ -1,4 +1,4 @@
-// The table of answers: the number of each line, verdicts, which combine lines, and lines 64 and 65; the machine's numbers.
+// The table of answers: its lines as verdicts, and lines 64 and 65; the machine's numbers.
 #![tactic(auto)]
 
 pub mod answers;

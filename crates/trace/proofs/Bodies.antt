@@ -1,7 +1,8 @@
 -- What a record is by its body and kind, by the tests that lead there. Assumes nothing.
 use Prim.Native.Nat.{ℕ, zero, suc, ◌+◌, ◌-◌, ◌≤◌, ◌<◌}
 use native.Mathlib.Omega.{arith}
-use mathlib.Core.Path.{◌≡◌, refl}
+use mathlib.Core.Path.{◌≡◌, refl, sym, ap, ◌∙◌}
+use Rattle.std.specs.Prelude.{Ok}
 use mathlib.Core.List.{List, [], ◌∷◌}
 use mathlib.Core.Option.{none, some}
 use lib.ListN.{length, get_elem?, take, drop}
@@ -9,13 +10,12 @@ use borrow.Author.Tests.{le-leb, lt-leb, eq-eqb, ne_eqb}
 use Rattle.machine.specs.declared.Request.{Request}
 use Rattle.machine.specs.declared.Request.TheVariants.{Access}
 use Rattle.machine.specs.declared.AccessKind.TheVariants.{Fetch, Store}
-use Rattle.house_record.specs.declared.Found.TheVariants.{Whole, Short, End as AtEnd}
+use Rattle.house_record.specs.declared.Header.{Header}
 use Rattle.house_record.specs.Little.{little}
-use Rattle.house_record.specs.Records.{found}
+use Rattle.house_record.specs.Records.{Short, End as AtEnd, found}
 use Rattle.house_record.proofs.Finding.{whole_inside}
-use Rattle.trace.specs.declared.Read.{Read}
-use Rattle.trace.specs.declared.Read.TheVariants.{Remark, Bad, End}
-use Rattle.trace.specs.Trace.{request_in, fetch_in, store_in, key_requests, key_in, prefix_requests, prefix_in, remark_in, kind_read, record_read, read_of}
+use Rattle.trace.specs.Trace.{Remark, Bad, End, request_in, fetch_in, store_in, key_requests, key_in, prefix_requests, prefix_in, remark_in}
+use Rattle.trace.specs.Trace.{kind_read, record_read, read_of}
 
 none_past : (xs : List Request) (i : ℕ) → length xs ≤ i → get_elem? xs i ≡ none
 none_past [] i h = refl
@@ -49,6 +49,16 @@ module _ (body : List ℕ) where
       → length body ≡ 10 → request_in body r ≡ key_in body
   unfolding key_in
   key_case k r e h long = rw (h, e) (simp (eq-eqb _ _ long))
+
+  -- with operands that were read
+  module _ (r1 r2 : ℕ) (e1 : r1 ≡ little 4 body 2) (e2 : r2 ≡ little 4 body 6) where
+    pub key_told : (n k : ℕ) (r : Request) → get_elem? (key_requests r1 r2) k ≡ some r → n ≡ little 1 body 1 → n ≡ k → length body ≡ 10
+        → request_in body r ≡ key_in body
+    key_told n k r e f g long =
+        let same : get_elem? (key_requests (little 4 body 2) (little 4 body 6)) k ≡ get_elem? (key_requests r1 r2) k =
+        ap (λ (x : ℕ). get_elem? (key_requests x (little 4 body 6)) k) (sym e1) ∙ ap (λ (x : ℕ). get_elem? (key_requests r1 x) k) (sym e2)
+        in
+        key_case k r (same ∙ e) (sym f ∙ g) long
 
   pub no_key_case : 6 ≤ little 1 body 1 → length body ≡ 10 → Bad ≡ key_in body
   unfolding key_in
@@ -100,17 +110,15 @@ module _ (body : List ℕ) where
   unfolding kind_read
   other_kind k a b c d e = simp (ne_eqb _ _ a, ne_eqb _ _ b, ne_eqb _ _ c, ne_eqb _ _ d, ne_eqb _ _ e)
 
--- by the stated length
-module _ (s : List ℕ) (stated kind : ℕ) where
-  pub too_long : 512 < stated → Bad ≡ record_read (Whole stated kind) s
-  unfolding record_read
-  too_long h = simp (lt-leb _ _ h)
+pub ruleset accesses = (other_fetch, fetched, other_store, stored)
 
-  pub read_as : stated ≤ 512 → (r : Read) → r ≡ kind_read kind (take (2 + stated - 4) (drop 4 s)) → r ≡ record_read (Whole stated kind) s
-  unfolding record_read
-  read_as h r e =
-      let same : 2 + stated - 4 ≡ stated - 2 = omega arith in
-      rw (e, same) (simp (le-leb _ _ h))
+pub ruleset keys = (other_key, key_case, no_key_case)
+
+pub ruleset prefixes = (other_prefix, prefix_case, no_prefix_case)
+
+pub ruleset remarks = (remarked, long_remark)
+
+pub ruleset by_number = (kind_1, kind_2, kind_3, kind_4, kind_255, other_kind)
 
 -- by what stands in front
 module _ (s : List ℕ) where
@@ -122,10 +130,19 @@ module _ (s : List ℕ) where
   unfolding read_of record_read
   front_short e = rw e refl
 
-  module _ (stated kind : ℕ) (e : found s 0 ≡ Whole stated kind) where
-    pub front_whole : record_read (Whole stated kind) s ≡ read_of s
-    unfolding read_of
-    front_whole = rw e refl
+  -- a record that is there whole, by the length that it states
+  module _ (header : Header) (e : found s 0 ≡ Ok header) where
+    pub front_inside : (2 ≤ header.length) × (2 + header.length ≤ length s)
+    front_inside = let known = whole_inside s 0 header.length header.kind e in (known.0, omega (arith, known.1))
 
-    pub front_inside : (2 ≤ stated) × (2 + stated ≤ length s)
-    front_inside = let known = whole_inside s 0 stated kind e in (known.0, omega (arith, known.1))
+    pub too_long : 512 < header.length → Bad ≡ read_of s
+    unfolding read_of record_read
+    too_long h = rw e (simp (lt-leb _ _ h))
+
+    pub read_as : header.length ≤ 512 → kind_read header.kind (take (2 + header.length - 4) (drop 4 s)) ≡ read_of s
+    unfolding read_of record_read
+    read_as h =
+        let same : 2 + header.length - 4 ≡ header.length - 2 = omega arith in
+        rw (same, e) (simp (le-leb _ _ h))
+
+pub ruleset fronts = (front_end, front_short, front_inside, too_long, read_as)

@@ -16,16 +16,13 @@ use borrow.Author.Tests.{le-leb, lt-leb, leb-true, eqb-true}
 use Rattle.machine.specs.declared.Request.{Request}
 use Rattle.machine.specs.declared.Request.TheVariants.{Access, Key, Prefix}
 use Rattle.machine.specs.declared.AccessKind.TheVariants.{Fetch, Store}
-use Rattle.house_record.specs.declared.Found.TheVariants.{Whole, Short}
 use Rattle.house_record.specs.Little.{little}
-use Rattle.house_record.specs.Records.{found, there}
+use Rattle.house_record.specs.Records.{Whole, Short, found, there}
 use Rattle.house_record.proofs.LittleBytes.{little-append, little-take, little-drop}
 use Rattle.trace.proofs.Bodies.{kind_1, kind_2, kind_3, kind_4, kind_255}
 use Rattle.trace.proofs.Bodies.{other_kind, other_fetch, other_store, other_key, other_prefix, long_remark, no_key_case, no_prefix_case}
-use Rattle.trace.specs.declared.Read.{Read}
-use Rattle.trace.specs.declared.Read.TheVariants.{Request as ARequest, Remark, Bad, End}
-use Rattle.trace.specs.Trace.{request_in, fetch_in, store_in, one_of, key_requests, key_in, prefix_requests, prefix_in, remark_in}
-use Rattle.trace.specs.Trace.{kind_read, record_read, read_of}
+use Rattle.trace.specs.Trace.{Read, ARequest, Remark, Bad, End, request_in, fetch_in, store_in, one_of, key_requests, key_in, prefix_requests}
+use Rattle.trace.specs.Trace.{prefix_in, remark_in, kind_read, record_read, read_of}
 use Rattle.trace.specs.Written.{request_size}
 
 -- the stated length is 2 to 512, and all that it counts is there
@@ -143,7 +140,7 @@ EveryAt Q [] = Unit
 EveryAt Q (x ∷ xs) = Q 0 x × EveryAt (λ n. Q (suc n)) xs
 
 pub looked_up : {A : Type 0} (Q : ℕ → A → Type 0) (xs : List A) → EveryAt Q xs → (i : ℕ) (x : A) → get_elem? xs i ≡ some x → Q i x
-looked_up Q [] every i x e = absurd (let z : ◌≡◌ {A = ℕ} 0 1 = cc in omega arith)
+looked_up Q [] every i x e = cc
 looked_up Q (y ∷ ys) every zero x e = let q : y ≡ x = cc in rw (← q) every.0
 looked_up Q (y ∷ ys) every (suc i) x e = looked_up (λ n. Q (suc n)) ys every.1 i x e
 

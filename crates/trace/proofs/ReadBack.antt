@@ -17,9 +17,7 @@ use Rattle.house_record.specs.Records.{record_bytes}
 use Rattle.house_record.proofs.Finding.{whole}
 use Rattle.house_record.proofs.LittleBytes.{Bytes, bytes_take, bytes_drop, little_bound, little_next}
 use Rattle.house_record.proofs.RecordBytes.{length-record_bytes, found_was_written}
-use Rattle.trace.specs.declared.Read.{Read}
-use Rattle.trace.specs.declared.Read.TheVariants.{Request as ARequest, Remark, Bad, End}
-use Rattle.trace.specs.Trace.{request_in, key_requests, prefix_requests, read_of, data_of}
+use Rattle.trace.specs.Trace.{Read, ARequest, Remark, Bad, End, request_in, key_requests, prefix_requests, read_of, data_of}
 use Rattle.trace.specs.Written.{access_body, key_body, prefix_body, request_bytes, remark_bytes}
 use Rattle.trace.specs.Written.{Word, Operands, Data, Holds, text_of, remark_text, RequestInFront, RemarkInFront, Says}
 use Rattle.trace.proofs.Front.{Fits, body_in, ARecord, by_front, by_kind, looked_up, stated_length, field_in_front, size_of_request, nothing_is_end}
@@ -210,13 +208,10 @@ module _ (s : List ℕ) where
     says (Remark size) e = remark_in_front s bytes size e
     says End e = rw e at (read_was s bytes)
     says Bad e = (
-      λ z. bad_is_not_end (sym e ∙ ap read_of z ∙ nothing_is_end),
+      λ z. let same : Bad ≡ End = sym e ∙ ap read_of z ∙ nothing_is_end in cc,
       λ p r size q. subst ARecord (sym (request_read p r size q) ∙ e) tt,
       λ size q. subst ARecord (sym (remark_read size q) ∙ e) tt,
     )
-      where
-        bad_is_not_end : Bad ≡ End → ⊥
-        bad_is_not_end e = absurd (let z : ◌≡◌ {A = ℕ} 0 1 = cc in omega arith)
 
     said : (x : Read) → Says s x → read_of s ≡ x
     said (ARequest p r size) q = request_read p r size q

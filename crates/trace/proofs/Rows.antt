@@ -8,8 +8,7 @@ use Rattle.machine.specs.declared.KeyInstruction.TheVariants.{Isk, Ssk, Rrb, Isk
 use Rattle.machine.specs.declared.PrefixInstruction.TheVariants.{SetPrefix, StorePrefix}
 use Rattle.house_record.specs.Little.{little}
 use Rattle.house_record.specs.Records.{found}
-use Rattle.trace.specs.declared.Read.TheVariants.{Request as ARequest, Remark, Bad, End}
-use Rattle.trace.specs.Trace.{fetch_in, store_in, key_in, prefix_in, remark_in, kind_read, record_read, read_of, data_of}
+use Rattle.trace.specs.Trace.{ARequest, Remark, Bad, End, fetch_in, store_in, key_in, prefix_in, remark_in, kind_read, record_read, read_of, data_of}
 
 -- processor 1, address 01020304, length 0506; the same with data bytes AA and BB; one data byte too few and one too many
 pub accesses : (read_of (9 ∷ 0 ∷ 1 ∷ 0 ∷ 1 ∷ 4 ∷ 3 ∷ 2 ∷ 1 ∷ 6 ∷ 5 ∷ []) ≡ ARequest 1 (Access Fetch 16909060 1286) 11)

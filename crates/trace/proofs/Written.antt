@@ -18,8 +18,7 @@ use Rattle.house_record.specs.Records.{record_bytes}
 use Rattle.house_record.proofs.LittleBytes.{little-written, little-written_at}
 use Rattle.house_record.proofs.RecordBytes.{length-record_bytes, found_record, body_of_record}
 use Rattle.trace.proofs.Bodies.{stored, key_case, prefix_case, remarked}
-use Rattle.trace.specs.declared.Read.TheVariants.{Request as ARequest, Remark}
-use Rattle.trace.specs.Trace.{fetch_in, key_requests, prefix_requests, kind_read, record_read, read_of}
+use Rattle.trace.specs.Trace.{ARequest, Remark, fetch_in, key_requests, prefix_requests, kind_read, record_read, read_of}
 use Rattle.trace.specs.Written.{access_body, key_body, prefix_body, request_bytes, remark_bytes, Word, Data, Holds, request_size, text_of}
 
 pub record_is_read : (kind : ℕ) (body rest : List ℕ) → kind < 65536 → length body ≤ 510 → read_of (record_bytes kind body ++ rest) ≡ kind_read kind body

@@ -8,9 +8,7 @@ use Rattle.machine.specs.declared.KeyInstruction.TheVariants.{Isk, Ssk, Rrb, Isk
 use Rattle.machine.specs.declared.PrefixInstruction.TheVariants.{SetPrefix, StorePrefix}
 use Rattle.house_record.specs.Little.{little_bytes}
 use Rattle.house_record.specs.Records.{record_bytes}
-use Rattle.trace.specs.declared.Read.{Read}
-use Rattle.trace.specs.declared.Read.TheVariants.{Request as ARequest, Remark, Bad, End}
-use Rattle.trace.specs.Trace.{data_of}
+use Rattle.trace.specs.Trace.{Read, ARequest, Remark, Bad, End, data_of}
 
 -- processor (1 byte), address (4), length (2)
 unfoldable pub access_body : (processor address count : ℕ) → List ℕ

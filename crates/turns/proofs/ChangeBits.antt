@@ -23,12 +23,12 @@ use Rattle.machine.specs.declared.KeyInstruction.TheVariants.{Isk, Ssk, Rrb, Isk
 use Rattle.machine.specs.declared.Request.{Request}
 use Rattle.machine.specs.declared.Request.TheVariants.{Access, Key, Prefix}
 use Rattle.machine.specs.declared.Reason.TheVariants.{Configuration}
-use Rattle.machine.specs.declared.Verdict.TheVariants.{Clear}
+use Rattle.machine.specs.Answers.{Clear}
 use Rattle.machine.specs.declared.channel.ChannelRequest.{ChannelRequest}
 use Rattle.machine.specs.declared.channel.ChannelOperation.{ChannelOperation}
 use Rattle.machine.specs.declared.channel.ChannelOperation.TheVariants.{TransferInChannel, Data, Invalid}
-use Rattle.machine.specs.declared.channel.Standing.{Standing}
-use Rattle.machine.specs.declared.channel.Standing.TheVariants.{UnderWay, Answered}
+use Rattle.machine.specs.Channel.{Standing, UnderWay, Answered, Channel, range_recorded, bytes_moved, before_fetching, with_ccw_fetched, carried_out}
+use Rattle.machine.specs.Channel.{next_ccw, step_by, channel_step, begun}
 use Rattle.machine.specs.Lists.{written, any_below, record_of}
 use Rattle.machine.specs.Numbers.{unit_of}
 use Rattle.machine.specs.Key.{change, key_in_word, after_reset}
@@ -37,7 +37,6 @@ use Rattle.machine.specs.Protection.{recorded}
 use Rattle.machine.specs.KeyInstructions.{two_keys, key_count, first_unit, keys_left}
 use Rattle.machine.specs.Table.{configuration, verdict}
 use Rattle.machine.specs.Step.{Outcome, storage_left, keys_recorded, completed, step}
-use Rattle.machine.specs.Channel.{Channel, range_recorded, bytes_moved, before_fetching, with_ccw_fetched, carried_out, next_ccw, step_by, channel_step, begun}
 use Rattle.machine.specs.Turns.{State, Turn, next}
 use Rattle.machine.proofs.Written.{length-written, written_elsewhere, written_there, marked_either}
 use Rattle.machine.proofs.Verdicts.{tested, line_false, any_found, any_none}

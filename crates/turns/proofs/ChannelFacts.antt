@@ -19,7 +19,8 @@ use Rattle.machine.specs.declared.AccessKind.TheVariants.{Fetch}
 use Rattle.machine.specs.declared.channel.Ccw.{Ccw}
 use Rattle.machine.specs.declared.channel.ChannelOperation.TheVariants.{Data}
 use Rattle.machine.specs.declared.channel.Chaining.TheVariants.{Command, Ended}
-use Rattle.machine.specs.declared.channel.Standing.TheVariants.{UnderWay}
+use Rattle.machine.specs.Channel.{UnderWay, Channel, big_endian, ccw_at, operation_of, first_refusal, before_fetching, range_forbidden}
+use Rattle.machine.specs.Channel.{range_recorded, bytes_moved, before_transfer, with_ccw_fetched, carried_out, obeyed, next_ccw, channel_step, begun}
 use Rattle.machine.specs.declared.channel.ChannelProgress.{ChannelProgress}
 use Rattle.machine.specs.Lists.{written, any_below}
 use Rattle.machine.specs.Key.{after_store}
@@ -29,9 +30,6 @@ use Rattle.machine.specs.Protection.{permitted, low_protected}
 use Rattle.machine.specs.Table.{addressing, protection, before_protection, verdict}
 use Rattle.machine.specs.Step.{storage_left, buffer_left, keys_recorded, completed, performed, step}
 use Rattle.machine.specs.Pair.{served, pair_step}
-use Rattle.machine.specs.Channel.{Channel, big_endian, ccw_at, operation_of, first_refusal, before_fetching, range_forbidden, range_recorded, bytes_moved}
-use Rattle.machine.specs.Channel.{before_transfer, with_ccw_fetched}
-use Rattle.machine.specs.Channel.{carried_out, obeyed, next_ccw, channel_step, begun}
 use Rattle.machine.specs.Turns.{State, Turn}
 use Rattle.machine.proofs.Verdicts.{not_both}
 use Rattle.machine.proofs.Written.{length-written, written_there}

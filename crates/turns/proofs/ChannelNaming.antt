@@ -17,10 +17,9 @@ use Rattle.machine.specs.declared.channel.ChannelOperation.{ChannelOperation}
 use Rattle.machine.specs.declared.channel.ChannelOperation.TheVariants.{TransferInChannel, Data, Invalid}
 use Rattle.machine.specs.declared.channel.ChannelReason.{ChannelReason}
 use Rattle.machine.specs.declared.channel.ChannelReason.TheVariants.{Program, Protection, Device}
-use Rattle.machine.specs.declared.channel.ChannelAnswer.TheVariants.{Completed, Refused}
-use Rattle.machine.specs.declared.channel.Standing.TheVariants.{UnderWay, Answered}
-use Rattle.machine.specs.Channel.{Channel, channel_number, ccw_at, operation_of, refused, first_refusal, before_fetching, fetching_forbidden, before_transfer}
-use Rattle.machine.specs.Channel.{data_forbidden, with_ccw_fetched, carried_out, unless_refused, unless_forbidden, obeyed, next_ccw}
+use Rattle.machine.specs.Channel.{Completed, Refused, UnderWay, Answered, Channel, channel_number, ccw_at, operation_of, refused, first_refusal}
+use Rattle.machine.specs.Channel.{before_fetching, fetching_forbidden, before_transfer, data_forbidden, with_ccw_fetched, carried_out, unless_refused}
+use Rattle.machine.specs.Channel.{unless_forbidden, obeyed, next_ccw}
 use Rattle.machine.specs.Lists.{any_below}
 use Rattle.machine.specs.Numbers.{unit_of}
 use Rattle.turns.specs.Units.{Naming, unnamed, fetching, otherwise}

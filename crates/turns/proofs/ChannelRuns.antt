@@ -12,10 +12,8 @@ use lib.ListN.{replicate}
 use Rattle.machine.specs.declared.Settings.{Settings}
 use Rattle.machine.specs.declared.Processor.{Processor}
 use Rattle.machine.specs.declared.channel.ChannelReason.TheVariants.{Configuration}
-use Rattle.machine.specs.declared.channel.ChannelAnswer.TheVariants.{Refused}
-use Rattle.machine.specs.declared.channel.Standing.{Standing}
-use Rattle.machine.specs.declared.channel.Standing.TheVariants.{UnderWay, Answered}
-use Rattle.machine.specs.Channel.{Channel, channel_values, first_refusal, before_fetching, next_ccw, channel_step, begun, steps, ChannelOutcome, channel_run}
+use Rattle.machine.specs.Channel.{Refused, Standing, UnderWay, Answered, Channel, channel_values, first_refusal, before_fetching, next_ccw}
+use Rattle.machine.specs.Channel.{channel_step, begun, steps, ChannelOutcome, channel_run}
 use Rattle.machine.specs.Turns.{State}
 use Rattle.machine.proofs.Verdicts.{not_both}
 use Rattle.turns.specs.Parties.{Joint, turn, alone}

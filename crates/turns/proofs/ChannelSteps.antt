@@ -16,12 +16,10 @@ use Rattle.machine.specs.declared.channel.ChannelOperation.TheVariants.{Transfer
 use Rattle.machine.specs.declared.channel.ChannelProgress.{ChannelProgress}
 use Rattle.machine.specs.declared.channel.ChannelReason.{ChannelReason}
 use Rattle.machine.specs.declared.channel.ChannelReason.TheVariants.{Program, Protection, Device}
-use Rattle.machine.specs.declared.channel.ChannelAnswer.TheVariants.{Refused}
-use Rattle.machine.specs.declared.channel.Standing.{Standing}
-use Rattle.machine.specs.declared.channel.Standing.TheVariants.{UnderWay, Answered}
-use Rattle.machine.specs.Channel.{Channel, ccw_at, operation_of, standing_as, refused, first_refusal, request_lines, address_lines, before_fetching}
-use Rattle.machine.specs.Channel.{program_check, data_outside, device_short, before_transfer, with_ccw_fetched, transferred, after_data}
-use Rattle.machine.specs.Channel.{carried_out, data_forbidden, unless_refused, unless_forbidden, obeyed, next_ccw, step_by, channel_step, begun}
+use Rattle.machine.specs.Channel.{Refused, Standing, UnderWay, Answered, Channel, ccw_at, operation_of, standing_as, refused, first_refusal}
+use Rattle.machine.specs.Channel.{request_lines, address_lines, before_fetching, program_check, data_outside, device_short, before_transfer}
+use Rattle.machine.specs.Channel.{with_ccw_fetched, transferred, after_data, carried_out, data_forbidden, unless_refused, unless_forbidden, obeyed}
+use Rattle.machine.specs.Channel.{next_ccw, step_by, channel_step, begun}
 use Rattle.machine.specs.Turns.{State, Turn, Given, next, given}
 use Rattle.turns.specs.Units.{Naming, unnamed, fetching, otherwise, naming}
 use Rattle.turns.specs.ChannelUnits.{in_range, ccw_named, data_named, together, unless_applies, next_ccw_names, step_names_by}

@@ -16,12 +16,9 @@ use Rattle.machine.specs.declared.channel.ChannelOperation.{ChannelOperation}
 use Rattle.machine.specs.declared.channel.ChannelOperation.TheVariants.{TransferInChannel, Data, Invalid}
 use Rattle.machine.specs.declared.channel.ChannelProgress.{ChannelProgress}
 use Rattle.machine.specs.declared.channel.ChannelReason.{ChannelReason}
-use Rattle.machine.specs.declared.channel.ChannelAnswer.TheVariants.{Completed}
-use Rattle.machine.specs.declared.channel.Standing.{Standing}
-use Rattle.machine.specs.declared.channel.Standing.TheVariants.{UnderWay, Answered}
-use Rattle.machine.specs.Channel.{Channel, ccw_at, operation_of, first_refusal, before_fetching, fetching_forbidden}
-use Rattle.machine.specs.Channel.{before_transfer, data_forbidden, with_ccw_fetched, carried_out, unless_refused, unless_forbidden, obeyed, next_ccw, step_by}
-use Rattle.machine.specs.Channel.{channel_step, begun}
+use Rattle.machine.specs.Channel.{Completed, Standing, UnderWay, Answered, Channel, ccw_at, operation_of, first_refusal, before_fetching}
+use Rattle.machine.specs.Channel.{fetching_forbidden, before_transfer, data_forbidden, with_ccw_fetched, carried_out, unless_refused}
+use Rattle.machine.specs.Channel.{unless_forbidden, obeyed, next_ccw, step_by, channel_step, begun}
 use Rattle.machine.specs.Turns.{State}
 use Rattle.machine.proofs.Verdicts.{not_both}
 use Rattle.turns.specs.ThreeLists.{ChannelTurn, ChannelGiven, Work, requests, between, under_way, at_end, found, stepped, goes_on, work_then, parties}

@@ -15,7 +15,7 @@ use Rattle.machine.specs.declared.Request.{Request}
 use Rattle.machine.specs.declared.Request.TheVariants.{Access, Key, Prefix}
 use Rattle.machine.specs.declared.KeyInstruction.{KeyInstruction}
 use Rattle.machine.specs.declared.KeyInstruction.TheVariants.{Isk, Ssk, Rrb, Iske, Sske, Rrbe}
-use Rattle.machine.specs.declared.Verdict.TheVariants.{Clear}
+use Rattle.machine.specs.Answers.{Clear}
 use Rattle.machine.specs.declared.channel.ChannelProgress.{ChannelProgress}
 use Rattle.machine.specs.Lists.{written, record_of}
 use Rattle.machine.specs.Key.{key_in_word}

@@ -11,7 +11,7 @@ use Rattle.machine.specs.declared.Request.{Request}
 use Rattle.machine.specs.declared.Request.TheVariants.{Access, Key, Prefix}
 use Rattle.machine.specs.declared.AccessKind.{AccessKind}
 use Rattle.machine.specs.declared.AccessKind.TheVariants.{Fetch, Store}
-use Rattle.machine.specs.declared.Verdict.TheVariants.{Clear}
+use Rattle.machine.specs.Answers.{Clear}
 use Rattle.machine.specs.Numbers.{add24}
 use Rattle.machine.specs.Key.{access_control, fetch_protection, after_fetch}
 use Rattle.machine.specs.Protection.{permitted, forbidden}

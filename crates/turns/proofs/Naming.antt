@@ -1,6 +1,7 @@
 -- When a request names units at all: an access exactly when its number is 0 or 4, a key instruction exactly when it is 0, a prefix instruction
 -- never. The units are named where the lines before protection let the request pass; then only line 4 is left, and no other line has its number.
 -- Assumes nothing.
+use Rattle.std.specs.Prelude.{Err}
 use Prim.Native.Nat.{ℕ, ◌<◌}
 use mathlib.Core.Path.{◌≡◌, refl, ap, ◌∙◌}
 use mathlib.Core.Bool.{Bool, true, false, not}
@@ -16,9 +17,7 @@ use Rattle.machine.specs.declared.Request.{Request}
 use Rattle.machine.specs.declared.Request.TheVariants.{Access, Key, Prefix}
 use Rattle.machine.specs.declared.Reason.{Reason}
 use Rattle.machine.specs.declared.Reason.TheVariants.{Configuration, Record, Protection}
-use Rattle.machine.specs.declared.Verdict.{Verdict}
-use Rattle.machine.specs.declared.Verdict.TheVariants.{Clear, Stop}
-use Rattle.machine.specs.Answers.{number, number_of, answer_of, line, first_of, first_line}
+use Rattle.machine.specs.Answers.{Verdict, Clear, Stop, number, number_of, answer_of, line, first_of, first_line}
 use Rattle.machine.specs.Numbers.{lengths_valid}
 use Rattle.machine.specs.KeyInstructions.{key_count, two_keys}
 use Rattle.machine.specs.Table.{addressing, protection, before_protection, verdict}
@@ -27,7 +26,7 @@ use Rattle.machine.specs.Pair.{without_record, served, pair_step}
 use Rattle.turns.specs.Units.{unit_count, unit_at, names}
 use Rattle.machine.specs.Turns.{State, Turn, given}
 use Rattle.turns.specs.Units.{named, named_by}
-use Rattle.machine.proofs.Verdicts.{not_both, bytes_stopped, Never, never_line, never_first, never_bytes}
+use Rattle.machine.proofs.Verdicts.{not_both, bytes_stopped, Never, never_line, never_first, never_bytes, same_refusal}
 use Rattle.turns.proofs.Named.{named_at_lem, named_by_lem}
 use Rattle.machine.proofs.BeforeProtection.{access_cleared}
 use Rattle.machine.proofs.Requests.{by_verdict, completed_number, completed_cleared, completed_by_table, no_protection}
@@ -74,7 +73,7 @@ module _ (s : Settings) (storage keys : List ℕ) (p : Processor) (buffer : List
     where
       go : (v : Verdict) → before r ≡ v → names v s p r u ≡ true → before r ≡ Clear
       go Clear e n = e
-      go (Stop reason place) e n = absurd (not_both n refl)
+      go (Err refusal) e n = absurd (not_both n refl)
 
   -- and then the first unit in its range is named
   cleared_names : (r : Request) → before r ≡ Clear → 0 < unit_count s r → Names r
@@ -91,12 +90,12 @@ module _ (s : Settings) (storage keys : List ℕ) (p : Processor) (buffer : List
       go : (v : Verdict) → before r ≡ v → (reason : Reason) (place : ℕ) → first_of (before r) (protection s keys p r) ≡ Stop reason place
           → number reason ≡ 4 → before r ≡ Clear
       go Clear c reason place e h = c
-      go (Stop q k) c reason place e h =
-          let same : q ≡ reason = told (rw c at e) in
+      go (Err refusal) c reason place e h =
+          let same : refusal.reason ≡ reason = told (rw c at e) in
           absurd (rw c at (never_4 s (length storage) (length keys) p r (length buffer)) (rw same h))
         where
-          told : Stop q k ≡ Stop reason place → q ≡ reason
-          told f = cc
+          told : Stop refusal.reason refusal.place ≡ Stop reason place → refusal.reason ≡ reason
+          told f = (same_refusal f).0
 
   -- one that has passed them completes or ends with 4
   access_answers : (kind : AccessKind) (address count : ℕ) → before (Access kind address count) ≡ Clear

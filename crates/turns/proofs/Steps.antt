@@ -1,6 +1,7 @@
 -- A processor's request obeys the laws of actions. What it leaves of each part follows from the laws of a single request. In two states that are alike to it
 -- a request finds the same record and the same verdict of the lines before protection, so it names the same units, and one verdict; where that
 -- is clear, what it leaves and gives back is the same. Assumes nothing.
+use Rattle.std.specs.Prelude.{Err}
 use Prim.Native.Nat.{ℕ}
 use mathlib.Core.Path.{◌≡◌, refl, sym, ap}
 use mathlib.Core.Bool.{Bool, true, false, cond, ◌&&◌}
@@ -13,11 +14,9 @@ use lib.ListN.{length, get_or, get_elem?}
 use borrow.Author.Tests.{ltb-false, eq-eqb}
 use Rattle.machine.specs.declared.Settings.{Settings}
 use Rattle.machine.specs.declared.Processor.{Processor}
-use Rattle.machine.specs.declared.Verdict.{Verdict}
-use Rattle.machine.specs.declared.Verdict.TheVariants.{Clear, Stop}
+use Rattle.machine.specs.Answers.{Verdict, Clear, first_of}
 use Rattle.machine.specs.Numbers.{unit_of}
 use Rattle.machine.specs.Key.{after_fetch}
-use Rattle.machine.specs.Answers.{first_of}
 use Rattle.machine.specs.Table.{verdict}
 use Rattle.machine.specs.Step.{Outcome, performed, step}
 use Rattle.machine.specs.Pair.{PairOutcome, served, pair_step}
@@ -71,7 +70,7 @@ module _ (s : Settings) (t : Turn) where
         → named_by (some p) s u m t ≡ true → is_fetch t.request ≡ true
         → get_or (own m p).keys u 0 ≡ cond (is_clear v) (after_fetch (read m (key u))) (read m (key u))
     unfolding step performed
-    key_fetched p (Stop reason place) e u n f = rw e
+    key_fetched p (Err refusal) e u n f = rw e
     key_fetched p Clear e u n f =
         fetch_leaves_keys s m.storage m.keys p t.request t.buffer f e u (rw (table_clear s _ _ _ t.request _ e) at n)
 
@@ -143,7 +142,7 @@ module _ (s : Settings) (t : Turn) where
               rw (same_before, e)
               (sym (same_protection s _ _ _ t.request (λ i h.
               as_fetched _ _ _ (is_fetch t.request) _ (key_alike e _ (named_at_lem s _ t.request i h)))))
-          go (Stop reason place) e = rw (same_before, e)
+          go (Err refusal) e = rw (same_before, e)
 
     same_unit_mode : (u : ℕ) → unit_mode s o t u ≡ unit_mode s m t u
     same_unit_mode u = rw same_found (go (record_found m t) refl)
@@ -162,7 +161,7 @@ module _ (s : Settings) (t : Turn) where
     module _ (p : Processor) (found : record_found m t ≡ some p) where
       own_answer : (v : Verdict) → verdict_of s m t p ≡ v → ((own o p).answer ≡ (own m p).answer) × ((own o p).buffer ≡ (own m p).buffer)
       unfolding step performed
-      own_answer (Stop reason place) e = rw (same_verdict p found, e) (refl, refl)
+      own_answer (Err refusal) e = rw (same_verdict p found, e) (refl, refl)
       own_answer Clear e =
           let clear = table_clear s _ _ _ t.request _ e in
           rw (same_verdict p found, e) (
@@ -172,7 +171,7 @@ module _ (s : Settings) (t : Turn) where
 
       own_record_lem : (v : Verdict) → verdict_of s m t p ≡ v → (own o p).processor ≡ (own m p).processor
       unfolding step performed
-      own_record_lem (Stop reason place) e = rw (same_verdict p found, e)
+      own_record_lem (Err refusal) e = rw (same_verdict p found, e)
       own_record_lem Clear e =
           rw (same_verdict p found, e)
           (sym (record_same s _ t.buffer m o (alike lengths) t.request (same_keys p found (table_clear s _ _ _ t.request _ e))))
@@ -180,13 +179,13 @@ module _ (s : Settings) (t : Turn) where
       own_byte : (v : Verdict) → verdict_of s m t p ≡ v → (a : ℕ) → read m (byte a) ≡ read o (byte a)
           → get_or (own o p).storage a 0 ≡ get_or (own m p).storage a 0
       unfolding step performed
-      own_byte (Stop reason place) e a w = rw (same_verdict p found, e) (sym w)
+      own_byte (Err refusal) e a w = rw (same_verdict p found, e) (sym w)
       own_byte Clear e a w = rw (same_verdict p found, e) (sym (byte_same s _ t.buffer m o (alike lengths) t.request a w))
 
       own_key : (v : Verdict) → verdict_of s m t p ≡ v → (u : ℕ) → read m (key u) ≡ read o (key u)
           → get_or (own o p).keys u 0 ≡ get_or (own m p).keys u 0
       unfolding step performed
-      own_key (Stop reason place) e u w = rw (same_verdict p found, e) (sym w)
+      own_key (Err refusal) e u w = rw (same_verdict p found, e) (sym w)
       own_key Clear e u w = rw (same_verdict p found, e) (sym (key_same s _ t.buffer m o (alike lengths) t.request u w))
 
     same_given : given s o t ≡ given s m t

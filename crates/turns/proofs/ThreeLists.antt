@@ -13,10 +13,8 @@ use lib.Dec.{eqb, ltb}
 use borrow.Author.Tests.{eqb-true, le-ltb}
 use Rattle.machine.specs.declared.Settings.{Settings}
 use Rattle.machine.specs.declared.channel.ChannelProgress.{ChannelProgress}
-use Rattle.machine.specs.declared.channel.Standing.{Standing}
-use Rattle.machine.specs.declared.channel.Standing.TheVariants.{UnderWay, Answered}
+use Rattle.machine.specs.Channel.{Standing, UnderWay, Answered, begun}
 use Rattle.machine.specs.Numbers.{unit_of}
-use Rattle.machine.specs.Channel.{begun}
 use Rattle.machine.specs.Turns.{State, Turn}
 use Rattle.machine.proofs.Verdicts.{tested}
 use Rattle.turns.specs.Parties.{Joint, alone, run}

@@ -15,11 +15,10 @@ use Rattle.machine.specs.declared.channel.ChannelRequest.{ChannelRequest}
 use Rattle.machine.specs.declared.channel.ChannelOperation.{ChannelOperation}
 use Rattle.machine.specs.declared.channel.ChannelOperation.TheVariants.{TransferInChannel, Data, Invalid}
 use Rattle.machine.specs.declared.channel.ChannelReason.{ChannelReason}
-use Rattle.machine.specs.declared.channel.Standing.{Standing}
-use Rattle.machine.specs.declared.channel.Standing.TheVariants.{UnderWay, Answered}
+use Rattle.machine.specs.Channel.{Standing, UnderWay, Answered, Channel, ccw_at, operation_of, before_fetching, fetching_forbidden, before_transfer}
+use Rattle.machine.specs.Channel.{with_ccw_fetched}
 use Rattle.machine.specs.Lists.{any_below}
 use Rattle.machine.specs.Numbers.{unit_of}
-use Rattle.machine.specs.Channel.{Channel, ccw_at, operation_of, before_fetching, fetching_forbidden, before_transfer, with_ccw_fetched}
 use Rattle.turns.specs.Units.{Naming, unnamed, fetching, otherwise}
 
 -- unit u is that of a byte of the range

@@ -9,7 +9,7 @@ use Rattle.machine.specs.declared.Processor.{Processor}
 use Rattle.machine.specs.declared.Request.{Request}
 use Rattle.machine.specs.declared.Request.TheVariants.{Access, Key, Prefix}
 use Rattle.machine.specs.declared.KeyInstruction.TheVariants.{Isk, Ssk, Rrb, Iske, Sske, Rrbe}
-use Rattle.machine.specs.declared.Verdict.TheVariants.{Clear}
+use Rattle.machine.specs.Answers.{Clear}
 use Rattle.machine.specs.declared.channel.ChannelRequest.{ChannelRequest}
 use Rattle.machine.specs.Lists.{record_of}
 use Rattle.machine.specs.Numbers.{unit_of, unit_bytes}

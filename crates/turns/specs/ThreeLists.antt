@@ -5,10 +5,8 @@ use Rattle.machine.specs.declared.Settings.{Settings}
 use Rattle.machine.specs.declared.channel.ChannelRequest.{ChannelRequest}
 use Rattle.machine.specs.declared.channel.ChannelRecord.{ChannelRecord}
 use Rattle.machine.specs.declared.channel.ChannelProgress.{ChannelProgress}
-use Rattle.machine.specs.declared.channel.Standing.{Standing}
-use Rattle.machine.specs.declared.channel.Standing.TheVariants.{UnderWay, Answered}
+use Rattle.machine.specs.Channel.{Standing, UnderWay, Answered, Channel, channel_values, channel_step, begun}
 use Rattle.machine.specs.Answers.{Values}
-use Rattle.machine.specs.Channel.{Channel, channel_values, channel_step, begun}
 use Rattle.machine.specs.Turns.{State, Turn, Given, next, given}
 use Rattle.turns.specs.Units.{Naming, unnamed, otherwise, naming}
 use Rattle.turns.specs.ChannelUnits.{step_names}

@@ -1,15 +1,14 @@
 -- The units that a processor's request names. An access that completes or ends with 4 names every unit in its range: the unit of each byte's absolute
 -- address. A key instruction that completes names its one or two units. Every other request names none.
 -- An access completes or ends with 4, and a key instruction completes, exactly when the lines before protection let it pass.
-use Rattle.std.specs.Prelude.{ℕ, ◌+◌, Bool, true, false, cond, length, eqb}
+use Rattle.std.specs.Prelude.{ℕ, ◌+◌, Bool, true, false, cond, length, eqb, Err}
 use Rattle.std.proofs.Math.Option.{Option, none, some}
 use Rattle.machine.specs.declared.Settings.{Settings}
 use Rattle.machine.specs.declared.Processor.{Processor}
 use Rattle.machine.specs.declared.Request.{Request}
 use Rattle.machine.specs.declared.Request.TheVariants.{Access, Key, Prefix}
 use Rattle.machine.specs.declared.AccessKind.TheVariants.{Fetch, Store}
-use Rattle.machine.specs.declared.Verdict.{Verdict}
-use Rattle.machine.specs.declared.Verdict.TheVariants.{Clear, Stop}
+use Rattle.machine.specs.Answers.{Verdict, Clear}
 use Rattle.machine.specs.Lists.{record_of, any_below}
 use Rattle.machine.specs.Numbers.{unit_of}
 use Rattle.machine.specs.KeyInstructions.{key_count, two_keys, first_unit}
@@ -30,7 +29,7 @@ unit_at s p (Prefix instruction) i = 0
 
 -- unit u is named by the request r of a processor with the record p. The verdict is that of the lines before protection
 unfoldable pub names : Verdict → Settings → Processor → Request → ℕ → Bool
-names (Stop reason place) s p r u = false
+names (Err refusal) s p r u = false
 names Clear s p r u = any_below (λ i. eqb (unit_at s p r i) u) (unit_count s r)
 
 -- a request that finds the state m names unit u, its record being this one, if it has one

@@ -1,74 +1,41 @@
--- `fetch` is the rules' step: refused by the first lines, else tested and completed in its one unit or its two. Assumes nothing.
-use mathlib.Core.Path.{refl, sym, ◌∙◌}
-use Rattle.machine.specs.declared.AccessKind.TheVariants.{Fetch}
-use Rattle.access.proofs.InUnits.{first_refused, first_byte_keyed, has_begun, one_refused, one_fits, one_completed}
-use Rattle.access.proofs.InUnits.{outside_refused, second_keyed, two_refused, first_fits, second_fits, two_completed}
+-- `fetch` is the rules' step: refused as decided, else its one span or its two are recorded and moved. Assumes nothing.
+use borrow.Author.Rules.{rules}
+use mathlib.Core.Path.{refl}
+use Rattle.access.proofs.InUnits.{refused, admitted, first_fits, second_fits, one_completed, two_completed}
 use Rattle.access.proofs.fetch.Goals as goal
 
-pub returns-then-stops : goal.returns-then-stops
-returns-then-stops c =
-    rw c.answer_of.ensures
-    (first_refused _ _ _ _ _ _ _ _ c.first_lines-first.ensures c.stops.ensures c.if-stops.true)
+pub returns-in_err-spans : goal.returns-in_err-spans
+returns-in_err-spans c =
+    let left = refused _ c.args.storage.now _ _ _ _ _ c.args.buffer.now c.in_err-spans.ensures in
+    search rules
 
-pub span_at-here-requires : goal.span_at-here-requires
-span_at-here-requires c =
-    first_byte_keyed c.args.settings c.args.storage.now c.args.keys.now c.args.p Fetch c.args.address c.args.count c.args.buffer.now c.first_lines-first.ensures
-    c.stops.ensures c.if-stops.false
+pub record_access-requires : goal.record_access-requires
+record_access-requires c =
+    let passes = admitted _ c.args.storage.now _ _ _ _ _ c.args.buffer.now c.in_ok-spans.ensures in
+    (first_fits passes).1
 
-pub returns-then-stops-2 : goal.returns-then-stops-2
-returns-then-stops-2 c =
-    let begun = has_begun _ _ _ _ _ _ _ _ c.first_lines-first.ensures c.stops.ensures c.if-stops.false c.span_at-here.ensures c.bytes_to_unit_end-k.ensures in
-    rw c.answer_of-then-stops-2.ensures
-    (one_refused begun c.if-count-k.true c.lines_of_one-found.ensures c.stops-then-count-k.ensures c.if-stops-2.true)
+pub move_run-requires : goal.move_run-requires
+move_run-requires c =
+    let passes = admitted _ c.args.storage.now _ _ _ _ _ c.args.buffer.now c.in_ok-spans.ensures in
+    let fits = first_fits passes in search rules
 
-pub fetch_span-requires : goal.fetch_span-requires
-fetch_span-requires c =
-    let begun = has_begun _ _ _ _ _ _ _ _ c.first_lines-first.ensures c.stops.ensures c.if-stops.false c.span_at-here.ensures c.bytes_to_unit_end-k.ensures in
-    one_fits begun c.if-count-k.true c.lines_of_one-found.ensures c.stops-then-count-k.ensures c.if-stops-2.false
+pub record_access-requires-in-Some : goal.record_access-requires-in-Some
+record_access-requires-in-Some c =
+    let passes = admitted _ c.args.storage.now _ _ _ _ _ c.args.buffer.now c.in_ok-spans.ensures in
+    let fits = second_fits passes c.in-Some.is in search rules
 
-pub returns-then-count-k : goal.returns-then-count-k
-returns-then-count-k c =
-    let begun = has_begun _ _ _ _ _ _ _ _ c.first_lines-first.ensures c.stops.ensures c.if-stops.false c.span_at-here.ensures c.bytes_to_unit_end-k.ensures in
-    let left = c.fetch_span.ensures in
-    rw c.completed_by.ensures
-    (one_completed begun c.if-count-k.true c.lines_of_one-found.ensures c.stops-then-count-k.ensures c.if-stops-2.false (refl, left.1, left.0))
+pub move_run-requires-in-Some : goal.move_run-requires-in-Some
+move_run-requires-in-Some c =
+    let passes = admitted _ c.args.storage.now _ _ _ _ _ c.args.buffer.now c.in_ok-spans.ensures in
+    let fits = second_fits passes c.in-Some.is in search rules
 
-pub returns-then-outside : goal.returns-then-outside
-returns-then-outside c =
-    let begun = has_begun _ _ _ _ _ _ _ _ c.first_lines-first.ensures c.stops.ensures c.if-stops.false c.span_at-here.ensures c.bytes_to_unit_end-k.ensures in
-    rw c.refused_at.ensures (outside_refused begun c.if-count-k.false (sym c.outside.ensures ∙ c.if-outside.true))
+pub returns-in_default : goal.returns-in_default
+returns-in_default c =
+    let passes = admitted _ c.args.storage.now _ _ _ _ _ c.args.buffer.now c.in_ok-spans.ensures in
+    one_completed passes (refl, c.move_run.ensures, c.record_access.ensures) c.in_default.not-Some
 
-pub span_at-there-requires : goal.span_at-there-requires
-span_at-there-requires c =
-    let begun = has_begun _ _ _ _ _ _ _ _ c.first_lines-first.ensures c.stops.ensures c.if-stops.false c.span_at-here.ensures c.bytes_to_unit_end-k.ensures in
-    second_keyed begun (sym c.outside.ensures ∙ c.if-outside.false)
-
-pub returns-then-stops-3 : goal.returns-then-stops-3
-returns-then-stops-3 c =
-    let begun = has_begun _ _ _ _ _ _ _ _ c.first_lines-first.ensures c.stops.ensures c.if-stops.false c.span_at-here.ensures c.bytes_to_unit_end-k.ensures in
-    rw c.answer_of-then-stops-3.ensures
-    (two_refused begun c.if-count-k.false (sym c.outside.ensures ∙ c.if-outside.false) c.span_at-there.ensures
-    c.lines_of_two-found.ensures c.stops-2.ensures c.if-stops-3.true)
-
-pub fetch_span-requires-2 : goal.fetch_span-requires-2
-fetch_span-requires-2 c =
-    let begun = has_begun _ _ _ _ _ _ _ _ c.first_lines-first.ensures c.stops.ensures c.if-stops.false c.span_at-here.ensures c.bytes_to_unit_end-k.ensures in
-    first_fits begun c.if-count-k.false (sym c.outside.ensures ∙ c.if-outside.false) c.span_at-there.ensures
-    c.lines_of_two-found.ensures c.stops-2.ensures c.if-stops-3.false
-
-pub fetch_span-requires-3 : goal.fetch_span-requires-3
-fetch_span-requires-3 c =
-    let begun = has_begun _ _ _ _ _ _ _ _ c.first_lines-first.ensures c.stops.ensures c.if-stops.false c.span_at-here.ensures c.bytes_to_unit_end-k.ensures in
-    let kept = c.fetch_span-2.auto in
-    rw (kept.keys, kept.buffer)
-    (second_fits begun c.if-count-k.false (sym c.outside.ensures ∙ c.if-outside.false) c.span_at-there.ensures
-    c.lines_of_two-found.ensures c.stops-2.ensures c.if-stops-3.false)
-
-pub returns : goal.returns
-returns c =
-    let begun = has_begun _ _ _ _ _ _ _ _ c.first_lines-first.ensures c.stops.ensures c.if-stops.false c.span_at-here.ensures c.bytes_to_unit_end-k.ensures in
-    let first = c.fetch_span-2.ensures in
-    let second = c.fetch_span-3.ensures in
-    rw c.completed_by-2.ensures
-    (two_completed begun c.if-count-k.false (sym c.outside.ensures ∙ c.if-outside.false) c.span_at-there.ensures
-    c.lines_of_two-found.ensures c.stops-2.ensures c.if-stops-3.false (refl, first.1, first.0) (refl, second.1, second.0))
+pub returns-in-Some : goal.returns-in-Some
+returns-in-Some c =
+    let passes = admitted _ c.args.storage.now _ _ _ _ _ c.args.buffer.now c.in_ok-spans.ensures in
+    two_completed passes (refl, c.move_run.ensures, c.record_access.ensures) c.in-Some.is
+    (refl, c.move_run-in-Some.ensures, c.record_access-in-Some.ensures)

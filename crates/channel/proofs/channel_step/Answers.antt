@@ -1,24 +1,26 @@
 -- `channel_step`: a request that has answered stays, one that its own lines refuse is refused, and else the step is the CCW to come.
 -- Assumes nothing.
-use Rattle.channel.proofs.Replies.{lines_pass, step_stays, step_refused, step_on, conditions_met}
+use Rattle.std.proofs.Common.{◌∙◌, sym}
+use Rattle.channel.proofs.Replies.{lines_pass, step_stays, step_refused, step_on, conditions_met, answered_by, under_way_by}
 use Rattle.channel.proofs.channel_step.Goals as goal
 
 pub next_ccw-requires : goal.next_ccw-requires
-next_ccw-requires c =
-    lines_pass _ _ _ _ c.request_lines-lines.ensures c.in-UnderWay-lines.is
+next_ccw-requires c = lines_pass _ _ _ _ (rw c.of.ensures at c.request_lines.ensures) c.in-Ok.is
 
-pub returns-in-Answered : goal.returns-in-Answered
-returns-in-Answered c =
-    let (met, done) = conditions_met _ _ _ _ (step_stays _ _ _ _ _ _ _ c.in-Answered.is) in
+pub returns-then-is_some : goal.returns-then-is_some
+returns-then-is_some c =
+    let stands = answered_by _ (sym c.is_some.ensures ∙ c.if-is_some.true) in
+    let (met, done) = conditions_met _ _ _ _ (step_stays _ _ _ _ _ _ _ stands.1) in
     record { condition_1 = met; condition_2 = done }
 
-pub returns-in-Answered-lines : goal.returns-in-Answered-lines
-returns-in-Answered-lines c =
-    let refused = step_refused _ _ _ _ _ _ _ c.in-UnderWay.is c.request_lines-lines.ensures c.in-Answered-lines.is c.answered.ensures in
-    let (met, done) = conditions_met _ _ _ _ refused in
+pub returns-in-Err : goal.returns-in-Err
+returns-in-Err c =
+    let stands = under_way_by _ (sym c.is_some.ensures ∙ c.if-is_some.false) in
+    let (met, done) = conditions_met _ _ _ _ (step_refused _ _ _ _ _ _ _ stands (rw c.of.ensures at c.request_lines.ensures) c.in-Err.is c.answered.ensures) in
     record { condition_1 = met; condition_2 = done }
 
-pub returns-in-UnderWay-lines : goal.returns-in-UnderWay-lines
-returns-in-UnderWay-lines c =
-    let (met, done) = conditions_met _ _ _ _ (step_on _ _ _ _ _ _ _ c.in-UnderWay.is c.next_ccw.ensures) in
+pub returns-in-Ok : goal.returns-in-Ok
+returns-in-Ok c =
+    let stands = under_way_by _ (sym c.is_some.ensures ∙ c.if-is_some.false) in
+    let (met, done) = conditions_met _ _ _ _ (step_on _ _ _ _ _ _ _ stands c.next_ccw.ensures) in
     record { condition_1 = met; condition_2 = done }

@@ -1,34 +1,34 @@
 -- `storage_unit_request` is the call: by the settings, then by whether the request has a record. Assumes nothing.
-use mathlib.Core.Path.{refl}
-use lib.ListN.{length}
-use borrow.Author.Tests.{lt-ltb, le-ltb}
-use Rattle.machine.specs.declared.Answer.TheVariants.{Refused}
-use Rattle.machine.specs.declared.Reason.TheVariants.{Configuration}
-use Rattle.machine.specs.Answers.{answer_of}
-use Rattle.machine.specs.Pair.{without_record}
+use Rattle.std.proofs.Common.{sym, ◌∙◌}
+use borrow.Author.Tests.{lt-ltb, eq-eqb}
 use Rattle.boundary.specs.Boundary.{called_with, called}
-use Rattle.host.proofs.Calls.{nothing_changes}
+use Rattle.boundary.proofs.Settings.{settings_fit, settings_unfit}
+use Rattle.host.proofs.Calls.{no_processor, no_records}
 use Rattle.host.proofs.storage_unit_request.Goals as goal
 
-pub returns-then-settings-ge4 : goal.returns-then-settings-ge4
+pub returns-in-Err-clause-condition_2 : goal.returns-in-Err-clause-condition_2
 unfolding called
-returns-then-settings-ge4 c = record {
-  condition_1 = nothing_changes (Refused Configuration 0) c.pack.ensures refl refl refl refl;
-  condition_2 = rw (c.pack.ensures.0, le-ltb _ _ c.if-settings-ge4.true);
-}
+returns-in-Err-clause-condition_2 c =
+    let wrong = settings_unfit c.args.settings _ (sym c.settings_in.ensures ∙ c.in-Err.is) in
+    rw (c.pack.ensures.0, wrong.0, wrong.1)
 
-pub returns-then-records-processor_number : goal.returns-then-records-processor_number
-unfolding called called_with
-returns-then-records-processor_number c =
-    let met = rw c.settings_of-machine.ensures at c.serve_bytes.ensures in record {
-      condition_1 = met.0;
-      condition_2 = rw (lt-ltb _ _ c.if-settings-ge4.false, c.if-records-processor_number.true) met.1;
-    }
+pub returns-then-processor_number-ge2-clause-condition_2 : goal.returns-then-processor_number-ge2-clause-condition_2
+returns-then-processor_number-ge2-clause-condition_2 c =
+    let fit = settings_fit c.args.settings _ (sym c.settings_in.ensures ∙ c.in-Ok.is) in
+    let a = c.args in
+    no_processor a.settings a.storage.now a.keys.now a.records.now a.processor_number a.operation a.first a.second a.buffer.now fit.0
+    (rw (c.of-sizes.ensures, fit.1) at c.refused.ensures) c.if-processor_number-ge2.true
 
-pub returns-else-records-processor_number : goal.returns-else-records-processor_number
+pub returns-in-Some-clause-condition_2 : goal.returns-in-Some-clause-condition_2
 unfolding called called_with
-returns-else-records-processor_number c =
-    let verdict = without_record c.settings_of-machine.result (length c.args.storage.now) (length c.args.keys.now) in record {
-      condition_1 = nothing_changes (answer_of verdict 0 0) c.refused.ensures refl refl refl refl;
-      condition_2 = rw (c.refused.ensures.0, c.settings_of-machine.ensures, lt-ltb _ _ c.if-settings-ge4.false, c.if-records-processor_number.false);
-    }
+returns-in-Some-clause-condition_2 c =
+    let fit = settings_fit c.args.settings _ (sym c.settings_in.ensures ∙ c.in-Ok.is) in
+    let whole = c.in-Some.ensures.cases in
+    rw (lt-ltb _ _ fit.0, ← fit.1, eq-eqb _ _ whole.long, lt-ltb _ _ c.if-processor_number-ge2.false, ← whole.same) c.serve_bytes.ensures.1
+
+pub returns-in-None-clause-condition_2 : goal.returns-in-None-clause-condition_2
+returns-in-None-clause-condition_2 c =
+    let fit = settings_fit c.args.settings _ (sym c.settings_in.ensures ∙ c.in-Ok.is) in
+    let a = c.args in
+    no_records a.settings a.storage.now a.keys.now a.records.now a.processor_number a.operation a.first a.second a.buffer.now fit.0
+    (rw (c.of-sizes.ensures, fit.1) at c.refused-in-None.ensures) c.in-None.ensures.cases

@@ -1,23 +1,15 @@
 -- `permissions` are those of the manual's summary: of an access key over 15 by a law, of the others in the table, whose test is computed here of
 -- the table in the source. Assumes nothing.
 use Prim.Native.Nat.{ℕ}
-use mathlib.Core.Path.{◌≡◌, refl, sym}
+use mathlib.Core.Path.{◌≡◌, refl}
 use mathlib.Core.Bool.{true}
 use mathlib.Core.List.{List, [], ◌∷◌}
 use native.Mathlib.Omega.{arith}
 use Rattle.machine.specs.declared.AccessKind.TheVariants.{Fetch, Store}
 use Rattle.machine.specs.Protection.{summary}
 use Rattle.storage_key.specs.Entries.{word_of, permissions}
-use Rattle.storage_key.proofs.Entries.{over_15, follows, word_follows}
+use Rattle.storage_key.proofs.Entries.{follows, word_follows}
 use Rattle.storage_key.proofs.permissions.Goals as goal
-
-pub returns-in-Fetch : goal.returns-in-Fetch
-returns-in-Fetch c =
-    rw c.in-Fetch.is (sym (over_15 _ c.args.access_key c.if-access_key-ge16.true))
-
-pub returns-in-Store : goal.returns-in-Store
-returns-in-Store c =
-    rw c.in-Store.is (sym (over_15 _ c.args.access_key c.if-access_key-ge16.true))
 
 -- the words of the table in the source: the goals below have its rows, so they refuse a source with another word
 abbrev table : List (List ℕ)

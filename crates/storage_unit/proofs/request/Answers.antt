@@ -1,5 +1,7 @@
 -- `request` serves the processor by its own record and puts it back into the pair; a number that isn't 0 or 1 is refused. Assumes nothing.
-use mathlib.Core.Path.{refl}
+use mathlib.Core.Path.{◌≡◌, refl, ap, ◌∙◌}
+use Rattle.std.proofs.Common.{rules}
+use Rattle.machine.specs.Answers.{answer_of}
 use native.Mathlib.Omega.{arith}
 use Rattle.storage_unit.proofs.Conditions.{both_of_served, both_without_record}
 use Rattle.storage_unit.proofs.request.Goals as goal
@@ -13,7 +15,7 @@ returns-then-processor_number-lt2 c =
 
 pub returns : goal.returns
 returns c =
-    let both =
-    both_without_record _ _ _ _ _ _ _ _ (rw c.without_record-refused.ensures at c.answer_of.ensures) (omega arith)
+    let e : c.map.result ≡ answer_of c.lines_without_record-refused.result 0 0 = search rules in
+    let both = both_without_record _ _ _ _ _ _ _ _ (e ∙ ap (λ v. answer_of v 0 0) (rw c.of.ensures at c.lines_without_record-refused.ensures)) (omega arith)
     in
     record { condition_1 = both.0; condition_2 = both.1 }

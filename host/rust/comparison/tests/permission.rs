@@ -48,8 +48,8 @@ fn printed() -> String {
     let permitted: [fn(&Line) -> bool; 2] =
         [|line| line.fetch_permitted, |line| line.store_permitted];
     let mut table = String::new();
-    for permitted in permitted {
-        table += "    [\n";
+    for (kind, permitted) in ["fetch", "store"].into_iter().zip(permitted) {
+        table += &format!("    {kind}: [\n");
         for access_key in 0..16 {
             let word = (0..32).fold(0_u32, |word, leading_bits| {
                 let line = line_for(access_key, leading_bits << 3);
@@ -70,9 +70,9 @@ fn without_layout(text: &str) -> String {
 #[test]
 fn table_in_the_source() {
     let source = include_str!("../../../../crates/storage_key/src/lib.rt");
-    let begin = "const PERMISSIONS: [[u32; 16]; 2] = [\n";
+    let begin = "const PERMISSIONS: PermissionWords = PermissionWords {\n";
     let (_, after) = source.split_once(begin).expect("the table");
-    let (table, _) = after.split_once("\n];\n").expect("the end of the table");
+    let (table, _) = after.split_once("\n};\n").expect("the end of the table");
     print!("{}", printed());
     assert_eq!(without_layout(table), without_layout(&printed()));
 }

@@ -10,22 +10,22 @@ use Rattle.channel.proofs.moving.move_bytes.Goals as goal
 
 pub loop-i-init : goal.loop-i-init
 unfolding written
-loop-i-init c = (omega arith, refl)
+loop-i-init c = refl
 
 pub loop-i-preserved : goal.loop-i-preserved
-loop-i-preserved c = (omega arith, one_more _ _ _ _ _ c.loop-i.invariant.1)
+loop-i-preserved c = one_more _ _ _ _ _ c.loop-i.invariant
 
 pub loop-j-init : goal.loop-j-init
 unfolding written
-loop-j-init c = (omega arith, refl)
+loop-j-init c = refl
 
 pub loop-j-preserved : goal.loop-j-preserved
-loop-j-preserved c = (omega arith, one_more _ _ _ _ _ c.loop-j.invariant.1)
+loop-j-preserved c = one_more _ _ _ _ _ c.loop-j.invariant
 
 pub returns : goal.returns
 unfolding bytes_moved
 returns c =
     held_then_written _ _ _ _ _ _ _ _ _
-    c.loop-i.invariant.1 (le_antisymm c.loop-i.invariant.0 c.loop-i-test.false)
-    c.loop-j.invariant.1 (le_antisymm c.loop-j.invariant.0 c.loop-j-test.false)
+    c.loop-i.invariant (le_antisymm c.loop-i.auto.i-end c.loop-i-test.false)
+    c.loop-j.invariant (le_antisymm c.loop-j.auto.j-end c.loop-j-test.false)
     (omega arith)

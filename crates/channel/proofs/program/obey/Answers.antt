@@ -6,4 +6,4 @@ pub returns-in-TransferInChannel : goal.returns-in-TransferInChannel
 returns-in-TransferInChannel c = control_transferred _ _ _ _ _ _ _ _ c.in-TransferInChannel.is c.transfer_in_channel.ensures
 
 pub returns-in-Invalid : goal.returns-in-Invalid
-returns-in-Invalid c = bad _ _ _ _ _ _ _ c.in-Invalid.is c.refused.ensures
+returns-in-Invalid c = bad _ _ _ _ _ _ _ c.in-Invalid.is c.answered.ensures

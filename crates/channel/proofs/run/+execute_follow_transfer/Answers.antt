@@ -2,5 +2,5 @@
 use Rattle.channel.proofs.Replies.{run_ends}
 use Rattle.channel.proofs.run.+execute_follow_transfer.Goals as goal
 
-pub execute-returns-in-Answered : goal.execute-returns-in-Answered
-execute-returns-in-Answered t c = run_ends _ _ _ _ _ _ _ c.run_chain-next.ensures.result_after c.in-Answered.is c.reply.ensures
+pub execute-returns-in-Some : goal.execute-returns-in-Some
+execute-returns-in-Some t c = run_ends _ _ _ _ _ _ _ c.run_chain-next.ensures.result_after c.in-Some.is c.reply.ensures

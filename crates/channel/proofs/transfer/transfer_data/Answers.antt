@@ -3,16 +3,16 @@ use Rattle.channel.proofs.Ccws.{data_outside_lem, device_short_lem, data_forbidd
 use Rattle.channel.proofs.transfer.transfer_data.Goals as goal
 
 pub returns-then-storage-at : goal.returns-then-storage-at
-returns-then-storage-at c = data_outside_lem _ _ _ _ _ _ _ _ _ _ _ c.refused.ensures c.if-storage-at.true
+returns-then-storage-at c = data_outside_lem _ _ _ _ _ _ _ _ _ _ _ c.answered.ensures c.if-storage-at.true
 
 pub returns-then-device_left-n : goal.returns-then-device_left-n
 returns-then-device_left-n c =
-    device_short_lem _ _ _ _ _ _ _ _ _ _ _ c.if-storage-at.false c.device_left.ensures c.refused-then-device_left-n.ensures c.if-device_left-n.true
+    device_short_lem _ _ _ _ _ _ _ _ _ _ _ c.if-storage-at.false c.device_left.ensures c.answered-then-device_left-n.ensures c.if-device_left-n.true
 
 pub returns-then-range_forbidden : goal.returns-then-range_forbidden
 returns-then-range_forbidden c =
     data_forbidden_lem _ _ _ _ _ _ _ _ _ _ _ c.if-storage-at.false c.device_left.ensures c.if-device_left-n.false c.range_forbidden.ensures
-    c.refused-then-range_forbidden.ensures c.if-range_forbidden.true
+    c.answered-then-range_forbidden.ensures c.if-range_forbidden.true
 
 pub returns-in-Fetch : goal.returns-in-Fetch
 returns-in-Fetch c =

@@ -7,14 +7,14 @@ use Rattle.host.proofs.serve.serve_words.Goals as goal
 pub returns-in-0 : goal.returns-in-0
 returns-in-0 c =
     rw c.in-0.is
-    (kept_call c.args.records.now _ _ _ _ _ _ c.fetch.result (c.record-p.ensures ∙ c.requires.2) c.fetch.ensures
-    (λ i. omega (arith, c.type_inv.records i)) c.pack.ensures)
+    (kept_call c.args.records.now _ _ _ _ _ _ c.fetch.result (c.record-p.ensures ∙ c.requires) c.fetch.ensures
+    c.fits-records c.pack.ensures)
 
 pub returns-in-1 : goal.returns-in-1
 returns-in-1 c =
     rw c.in-1.is
-    (kept_call c.args.records.now _ _ _ _ _ _ c.store.result (c.record-p-in-1.ensures ∙ c.requires.2) c.store.ensures
-    (λ i. omega (arith, c.type_inv.records i)) c.pack-in-1.ensures)
+    (kept_call c.args.records.now _ _ _ _ _ _ c.store.result (c.record-p-in-1.ensures ∙ c.requires) c.store.ensures
+    c.fits-records c.pack-in-1.ensures)
 
 pub returns-in_default : goal.returns-in_default
 returns-in_default c =

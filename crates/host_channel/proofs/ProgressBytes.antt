@@ -13,7 +13,7 @@ use Rattle.machine.specs.Lists.{written}
 use Rattle.machine.proofs.Written.{length-written}
 use Rattle.house_record.specs.Little.{little_bytes, pasted}
 use Rattle.house_record.specs.Little as fields
-use Rattle.house_record.proofs.LittleBytes.{length-little_bytes}
+use Rattle.house_record.proofs.LittleBytes.{length-little_bytes, in_room}
 use borrow.Author.Tests.{eq-eqb, lt-ltb}
 use native.Mathlib.Omega.{arith}
 use Rattle.machine.specs.declared.channel.ChannelReason.{ChannelReason}
@@ -64,23 +64,25 @@ put_written n at v b fits =
     rw (long, written_part b (little_bytes n v) at n (omega arith) fits, take_all n (little_bytes n v) (omega arith)) refl
 
 -- one field
-field_put : (n at v : ℕ) (b : List ℕ) {b' : List ℕ} → at + n ≤ 32 → length b ≡ 32 → b' ≡ fields.put n at v b → (b' ≡ put n at v b) × (length b' ≡ 32)
-field_put n at v b {b'} fits sized e =
-    let same : b' ≡ put n at v b = e ∙ put_written n at v b (omega arith) in
+field_put : (n at v : ℕ) (b : List ℕ) {b' : List ℕ} → n ≤ 8 → at + n ≤ 32 → length b ≡ 32 → b' ≡ fields.put_in_room n at v b
+    → (b' ≡ put n at v b) × (length b' ≡ 32)
+field_put n at v b {b'} few fits sized e =
+    let same : b' ≡ put n at v b = e ∙ in_room n at v b few (omega arith) ∙ put_written n at v b (omega arith) in
     (same, rw same (length-written b (λ i. at + i) (λ i. get_or (little_bytes n v) i 0) n ∙ sized))
 
 -- all fields
 pub all_put : (r : ChannelRecord) (count status chaining : ℕ) (b b1 b2 b3 b4 b5 b6 : List ℕ) → length b ≡ 32 → chaining ≡ chaining_number r.chaining
-    → b1 ≡ fields.put 4 0 r.ccw b → b2 ≡ fields.put 4 4 (chaining + status * 256) b1 → b3 ≡ fields.put 4 8 count b2 → b4 ≡ fields.put 4 12 0 b3
-    → b5 ≡ fields.put 8 16 r.taken b4 → b6 ≡ fields.put 8 24 r.given b5 → b6 ≡ progress_left r count status b
+    → b1 ≡ fields.put_in_room 4 0 r.ccw b → b2 ≡ fields.put_in_room 4 4 (chaining + status * 256) b1
+    → b3 ≡ fields.put_in_room 4 8 count b2 → b4 ≡ fields.put_in_room 4 12 0 b3
+    → b5 ≡ fields.put_in_room 8 16 r.taken b4 → b6 ≡ fields.put_in_room 8 24 r.given b5 → b6 ≡ progress_left r count status b
 unfolding progress_left
 all_put r count status chaining b b1 b2 b3 b4 b5 b6 sized e1 e2 e3 e4 e5 e6 e7 =
-    let f2 = field_put 4 0 r.ccw b (omega arith) sized e2 in
-    let f3 = field_put 4 4 (chaining + status * 256) b1 (omega arith) f2.1 e3 in
-    let f4 = field_put 4 8 count b2 (omega arith) f3.1 e4 in
-    let f5 = field_put 4 12 0 b3 (omega arith) f4.1 e5 in
-    let f6 = field_put 8 16 r.taken b4 (omega arith) f5.1 e6 in
-    let f7 = field_put 8 24 r.given b5 (omega arith) f6.1 e7 in
+    let f2 = field_put 4 0 r.ccw b (omega arith) (omega arith) sized e2 in
+    let f3 = field_put 4 4 (chaining + status * 256) b1 (omega arith) (omega arith) f2.1 e3 in
+    let f4 = field_put 4 8 count b2 (omega arith) (omega arith) f3.1 e4 in
+    let f5 = field_put 4 12 0 b3 (omega arith) (omega arith) f4.1 e5 in
+    let f6 = field_put 8 16 r.taken b4 (omega arith) (omega arith) f5.1 e6 in
+    let f7 = field_put 8 24 r.given b5 (omega arith) (omega arith) f6.1 e7 in
     rw (f7.0, f6.0, f5.0, f4.0, f3.0, f2.0, e1)
 
 -- what is written is all of it, where the bytes are right

@@ -5,18 +5,15 @@ ghost use Rattle.machine.specs.Channel.{big_endian, ccw_at, data_operation, oper
 use machine::AccessKind;
 use machine::channel::{Ccw, ChannelOperation};
 
-// The four bytes at an address as a number, big-endian.
+// The four bytes at an address as a number, big-endian. By `from_be_bytes` a CCW of 8 bytes takes longer (docs/BENCHMARK.md).
 #[tactic(auto, unfolding(machine::specs::Channel::big_endian))]
 fn word_at(storage: &[u8], at: usize) -> u32
     requires { at + 4 ≤ length storage.now }
     ensures { result ≡ big_endian 4 storage.now at }
 {
-    u32::from_be_bytes([
-        storage[at],
-        storage[at + 1],
-        storage[at + 2],
-        storage[at + 3],
-    ])
+    let high = u32::from(storage[at]) * 256 + u32::from(storage[at + 1]);
+    let low = u32::from(storage[at + 2]) * 256 + u32::from(storage[at + 3]);
+    high * 65536 + low
 }
 
 // The CCW at an address, of its two words. The byte behind the flags is ignored.

@@ -71,6 +71,8 @@ impl TryFrom<u32> for Status {
 
     ghost try_from_gives = { λ n r. r ≡ status_read n };
 
+    // Compiled into its caller, for speed (docs/BENCHMARK.md).
+    #[inline(always)]
     fn try_from(number: u32) -> Result<Self, NoMeaning> {
         let reason = match number {
             0 => return Ok(Status::NotBegun),
